@@ -139,7 +139,7 @@ static void call_text(flurry_bytes *map, uint64_t kind, uint64_t drawn, size_t *
     } else if (kind < 750) {
         CHECK(flurry_bytes_remove(map, key, key_len) == status);
     } else {
-        CHECK(flurry_bytes_contains(map, key, key_len) == status);
+        CHECK(flurry_bytes_contains(map, key, key_len) == was);
         get_text(map, key, key_len, place);
     }
     texts[place].present = kind < 450 || (kind >= 750 && was);

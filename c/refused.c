@@ -1,5 +1,6 @@
 /* Calls of which each request for memory is refused in turn: the first, then the second, until the call answers. After each refusal that a
- * call tells of, the map or set is as it was, and at the end no block is left. To free what was not made, or was freed, does nothing. */
+ * call tells of, the map or set is as it was, and at the end no block is left. Look-ups and removals ask for no memory. To free what was
+ * not made, or was freed, does nothing. */
 #include "flurry.h"
 #include "requests.h"
 #include <string.h>
@@ -22,6 +23,15 @@ static long done_without;
         CHECK(is_refused && (same));                               \
     }
 
+/* Do `call`, which asks for no memory. */
+#define WITHOUT_MEMORY(call)        \
+    do {                            \
+        refuse_after = 0;           \
+        call;                       \
+        CHECK(refuse_after == 0);   \
+        refuse_after = -1;          \
+    } while (0)
+
 /* Nothing is refused of half of the first calls, so that insertions enlarge the table. No first call asks for room. */
 static int in_turn(int call) {
     return call >= FIRST || draw(2) == 0;
@@ -43,7 +53,8 @@ static struct {
 
 static int is_number(flurry_words *map, uint64_t key) {
     uint64_t value = 77;
-    int found = flurry_words_get(map, key, &value) == FLURRY_PRESENT;
+    int found;
+    WITHOUT_MEMORY(found = flurry_words_get(map, key, &value) == FLURRY_PRESENT);
     return found == numbers[key].present && value == (found ? numbers[key].value : 77);
 }
 
@@ -58,10 +69,7 @@ static void call_number(flurry_words *map, int call, size_t *count) {
     } else if (kind < 6) {
         IN_TURN(turns, status, flurry_words_try_insert(map, key, call, &told), SAME);
     } else if (kind == 6) {
-        refuse_after = 0; /* a removal asks for no memory */
-        status = flurry_words_remove(map, key, &told);
-        CHECK(refuse_after == 0);
-        refuse_after = -1;
+        WITHOUT_MEMORY(status = flurry_words_remove(map, key, &told));
     } else {
         IN_TURN(turns, status, flurry_words_reserve(map, additional), SAME);
         CHECK(status == FLURRY_DONE && SAME);
@@ -103,50 +111,43 @@ static size_t key_of(uint64_t number, unsigned char *key) {
     return number;
 }
 
-static int is_value(uint64_t number, const unsigned char *value, size_t len) {
-    return texts[number].present && len == texts[number].len && memcmp(value, texts[number].value, len) == 0;
-}
-
 static int is_text(flurry_bytes *map, uint64_t number) {
     unsigned char key[MOST], value[MOST];
-    size_t len = 77;
-    size_t key_len = key_of(number, key);
-    int found = flurry_bytes_get(map, key, key_len, value, sizeof value, &len) == FLURRY_PRESENT;
-    return found ? is_value(number, value, len) : !texts[number].present && len == 77;
+    size_t key_len = key_of(number, key), len = 77;
+    int found, is_there;
+    WITHOUT_MEMORY(found = flurry_bytes_get(map, key, key_len, value, sizeof value, &len) == FLURRY_PRESENT);
+    WITHOUT_MEMORY(is_there = flurry_bytes_contains(map, key, key_len));
+    if (found != texts[number].present || found != is_there) return 0;
+    return found ? len == texts[number].len && memcmp(value, texts[number].value, len) == 0 : len == 77;
 }
 
 static void call_text(flurry_bytes *map, int call, size_t *count) {
-    unsigned char key[MOST], value[MOST], told[MOST] = {78};
+    unsigned char key[MOST], value[MOST];
     flurry_status status;
     uint64_t number = draw(KEYS);
-    size_t key_len = key_of(number, key), len = draw(MOST + 1), told_len = 77, additional = draw(4 * CALLS);
-    int was = texts[number].present, kind = (int)draw(call < FIRST ? 9 : 10), turns = in_turn(call);
+    size_t key_len = key_of(number, key), len = draw(MOST + 1), additional = draw(4 * CALLS);
+    int was = texts[number].present, kind = (int)draw(call < FIRST ? 7 : 8), turns = in_turn(call);
     memset(value, call, len);
-#define SAME (told[0] == 78 && told_len == 77 && is_text(map, number) && flurry_bytes_len(map) == *count)
+#define SAME (is_text(map, number) && flurry_bytes_len(map) == *count)
     if (kind < 3) {
         IN_TURN(turns, status, flurry_bytes_insert(map, key, key_len, value, len), SAME);
     } else if (kind < 5) {
         IN_TURN(turns, status, flurry_bytes_try_insert(map, key, key_len, value, len), SAME);
-    } else if (kind == 5) {
-        IN_TURN(turns, status, flurry_bytes_contains(map, key, key_len), SAME);
-    } else if (kind == 6) {
-        IN_TURN(turns, status, flurry_bytes_get(map, key, key_len, told, sizeof told, &told_len), SAME);
-        CHECK(was ? is_value(number, told, told_len) : SAME);
-    } else if (kind < 9) {
-        IN_TURN(turns, status, flurry_bytes_remove(map, key, key_len), SAME);
+    } else if (kind < 7) {
+        WITHOUT_MEMORY(status = flurry_bytes_remove(map, key, key_len));
     } else {
         IN_TURN(turns, status, flurry_bytes_reserve(map, additional), SAME);
         CHECK(status == FLURRY_DONE && SAME);
         return;
     }
     CHECK(status == (was ? FLURRY_PRESENT : FLURRY_ABSENT));
-    texts[number].present = kind < 5 || (kind < 7 && was);
+    texts[number].present = kind < 5;
     if (kind < 3 || (kind < 5 && !was)) {
         texts[number].len = len;
         memcpy(texts[number].value, value, len);
     }
     *count += texts[number].present - was;
-    CHECK(is_text(map, number) && flurry_bytes_len(map) == *count);
+    CHECK(SAME);
 #undef SAME
 }
 
@@ -177,10 +178,7 @@ static void call_element(flurry_word_set *set, int call, size_t *count) {
     if (kind < 5) {
         IN_TURN(turns, status, flurry_word_set_insert(set, element), SAME);
     } else if (kind < 7) {
-        refuse_after = 0; /* a removal asks for no memory */
-        status = flurry_word_set_remove(set, element);
-        CHECK(refuse_after == 0);
-        refuse_after = -1;
+        WITHOUT_MEMORY(status = flurry_word_set_remove(set, element));
     } else {
         IN_TURN(turns, status, flurry_word_set_reserve(set, additional), SAME);
         CHECK(status == FLURRY_DONE && SAME);
@@ -214,7 +212,9 @@ static int strings[KEYS];
 static int is_string(flurry_byte_set *set, uint64_t number) {
     unsigned char element[MOST];
     size_t len = key_of(number, element);
-    return flurry_byte_set_contains(set, element, len) == (strings[number] ? FLURRY_PRESENT : FLURRY_ABSENT);
+    int found;
+    WITHOUT_MEMORY(found = flurry_byte_set_contains(set, element, len));
+    return found == strings[number];
 }
 
 static void call_string(flurry_byte_set *set, int call, size_t *count) {
@@ -226,17 +226,15 @@ static void call_string(flurry_byte_set *set, int call, size_t *count) {
 #define SAME (is_string(set, number) && flurry_byte_set_len(set) == *count)
     if (kind < 4) {
         IN_TURN(turns, status, flurry_byte_set_insert(set, element, len), SAME);
-    } else if (kind == 4) {
-        IN_TURN(turns, status, flurry_byte_set_contains(set, element, len), SAME);
     } else if (kind < 7) {
-        IN_TURN(turns, status, flurry_byte_set_remove(set, element, len), SAME);
+        WITHOUT_MEMORY(status = flurry_byte_set_remove(set, element, len));
     } else {
         IN_TURN(turns, status, flurry_byte_set_reserve(set, additional), SAME);
         CHECK(status == FLURRY_DONE && SAME);
         return;
     }
     CHECK(status == (was ? FLURRY_PRESENT : FLURRY_ABSENT));
-    strings[number] = kind < 4 || (kind == 4 && was);
+    strings[number] = kind < 4;
     *count += strings[number] - was;
     CHECK(SAME);
 #undef SAME

@@ -104,7 +104,7 @@ static void call_strings(flurry_byte_set *set, size_t *count) {
         CHECK(flurry_byte_set_remove(set, string, len) == told);
         string_flags[flag] = 0;
     } else if (kind < 998) {
-        CHECK(flurry_byte_set_contains(set, string, len) == told);
+        CHECK(flurry_byte_set_contains(set, string, len) == was);
     } else if (kind == 998) {
         CHECK(flurry_byte_set_reserve(set, draw(5000)) == FLURRY_DONE);
         see_strings(set, *count);

@@ -101,8 +101,7 @@ flurry_status flurry_words_pairs(flurry_words *words, flurry_word_pair *pairs, s
 
 /* ---- From bytes to bytes ----
  *
- * A key or a value is any number of bytes, also none. The map keeps copies. Each call of one key copies the key first, and says
- * FLURRY_NO_MEMORY if memory for that cannot be allocated: nothing changed then, and nothing was written. */
+ * A key or a value is any number of bytes, also none. The map keeps copies of those that are inserted. */
 
 typedef struct flurry_bytes {
     void *at;
@@ -123,15 +122,16 @@ void flurry_bytes_free(flurry_bytes *bytes);
 /* The number of pairs. */
 size_t flurry_bytes_len(flurry_bytes *bytes);
 
-/* Says FLURRY_PRESENT or FLURRY_ABSENT. */
-flurry_status flurry_bytes_contains(flurry_bytes *bytes, const void *key, size_t key_len);
+/* Whether the key is present. */
+bool flurry_bytes_contains(flurry_bytes *bytes, const void *key, size_t key_len);
 
 /* Copies the key's value to the beginning of `value`, which has room for `room` bytes, and as much of it as there is room for. Writes the
  * length of the whole value to `value_len`, and says FLURRY_PRESENT. Or says FLURRY_ABSENT, and writes nothing. */
 flurry_status flurry_bytes_get(flurry_bytes *bytes, const void *key, size_t key_len, void *value, size_t room, size_t *value_len);
 
 /* Inserts a pair. Says FLURRY_PRESENT if the key was present, and its value is replaced; else FLURRY_ABSENT. Says FLURRY_NO_MEMORY if
- * memory for the copies, the pair or a first table cannot be allocated, or if the key is new and the map has as many pairs as it can. */
+ * memory for the copies, the pair or a first table cannot be allocated, or if the key is new and the map has as many pairs as it can:
+ * nothing changed. */
 flurry_status flurry_bytes_insert(flurry_bytes *bytes, const void *key, size_t key_len, const void *value, size_t value_len);
 
 /* Inserts a pair if the key is absent, and says FLURRY_ABSENT. If the key is present, says FLURRY_PRESENT; nothing changed.
@@ -199,8 +199,7 @@ flurry_status flurry_word_set_elements(flurry_word_set *set, uint64_t *elements,
 
 /* ---- Sets of byte strings ----
  *
- * An element is any number of bytes, also none. The set keeps copies. Each call of one element copies it first, and says FLURRY_NO_MEMORY
- * if memory for that cannot be allocated: nothing changed then. */
+ * An element is any number of bytes, also none. The set keeps copies of those that are inserted. */
 
 typedef struct flurry_byte_set {
     void *at;
@@ -215,12 +214,12 @@ void flurry_byte_set_free(flurry_byte_set *set);
 /* The number of elements. */
 size_t flurry_byte_set_len(flurry_byte_set *set);
 
-/* Says FLURRY_PRESENT or FLURRY_ABSENT. */
-flurry_status flurry_byte_set_contains(flurry_byte_set *set, const void *element, size_t element_len);
+/* Whether the element is present. */
+bool flurry_byte_set_contains(flurry_byte_set *set, const void *element, size_t element_len);
 
 /* Inserts an element, and says FLURRY_ABSENT, since it was absent. If it was present, says FLURRY_PRESENT; nothing changed. Says
  * FLURRY_NO_MEMORY if memory for the copy, the element or a first table cannot be allocated, or if the element is new and the set has as
- * many elements as it can. */
+ * many elements as it can: nothing changed. */
 flurry_status flurry_byte_set_insert(flurry_byte_set *set, const void *element, size_t element_len);
 
 /* Removes the element, and says FLURRY_PRESENT; or FLURRY_ABSENT. */

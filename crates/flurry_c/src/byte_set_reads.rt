@@ -1,14 +1,10 @@
 //! Sets of byte strings: reads.
-ghost use Rattle.std.specs.Prelude.{◌≡◌, ◌⊎◌, length};
+ghost use Rattle.std.specs.Prelude.{◌≡◌, is_some, length};
 ghost use Rattle.flurry_base.specs.FiniteSet.{IsFiniteSet};
 ghost use Rattle.flurry_c_base.specs.ByteStrings.{byte_order};
 ghost use Rattle.flurry_c.specs.ByteSetAnswers.{elements_of, found_in};
-ghost use Rattle.flurry_c.specs.Presence.{Finds};
-ghost use Rattle.flurry_c.specs.declared.statuses.TheConstants.{NO_MEMORY};
 
-use crate::statuses::{ABSENT, NO_MEMORY, PRESENT};
 use flurry_c_base::held_byte_set::HeldByteSet;
-use std::alloc::Global;
 
 /// Returns the number of elements.
 #[unsafe(no_mangle)]
@@ -20,21 +16,11 @@ pub extern "C" fn flurry_byte_set_len(set: &mut HeldByteSet) -> usize
     set.lend().len()
 }
 
-/// Returns [`PRESENT`] or [`ABSENT`].
-///
-/// Returns [`NO_MEMORY`] if memory for a copy of the element cannot be allocated.
+/// Returns whether the element is present.
 #[unsafe(no_mangle)]
-pub extern "C" fn flurry_byte_set_contains(
-    alloc: Global,
-    set: &mut HeldByteSet,
-    element: &[u8],
-) -> u8
-    ensures found { (result ≡ NO_MEMORY) ⊎ Finds (found_in set.old element.now) result }
+pub extern "C" fn flurry_byte_set_contains(set: &mut HeldByteSet, element: &[u8]) -> bool
+    ensures found { result ≡ is_some (found_in set.old element.now) }
     ensures same { set.new.set ≡ set.old.set }
 {
-    match set.lend().contains(alloc, element) {
-        Ok(true) => PRESENT,
-        Ok(false) => ABSENT,
-        Err(_) => NO_MEMORY,
-    }
+    set.lend().contains(element)
 }

@@ -33,18 +33,15 @@ pub extern "C" fn flurry_byte_set_insert(alloc: Global, set: &mut HeldByteSet, e
 }
 
 /// Removes the element, and returns [`PRESENT`], or [`ABSENT`] if there was none.
-///
-/// Returns [`NO_MEMORY`] if memory for a copy of the element cannot be allocated. The set is unchanged then.
 #[unsafe(no_mangle)]
-pub extern "C" fn flurry_byte_set_remove(alloc: Global, set: &mut HeldByteSet, element: &[u8]) -> u8
-    ensures { ((result ≡ NO_MEMORY) × (set.new.set ≡ set.old.set))
-        ⊎ (Finds (found_in set.old element.now) result
-        × (elements_of set.new ≡ without_element byte_order (elements_of set.old) element.now)) }
+pub extern "C" fn flurry_byte_set_remove(set: &mut HeldByteSet, element: &[u8]) -> u8
+    ensures found { Finds (found_in set.old element.now) result }
+    ensures elements { elements_of set.new ≡ without_element byte_order (elements_of set.old) element.now }
 {
-    match set.lend().remove(alloc, element) {
-        Ok(true) => PRESENT,
-        Ok(false) => ABSENT,
-        Err(_) => NO_MEMORY,
+    if set.lend().remove(element) {
+        PRESENT
+    } else {
+        ABSENT
     }
 }
 

@@ -57,18 +57,15 @@ pub extern "C" fn flurry_bytes_try_insert(
 }
 
 /// Removes the pair of the key, and returns [`PRESENT`], or [`ABSENT`] if there was none.
-///
-/// Returns [`NO_MEMORY`] if memory for a copy of the key cannot be allocated. The map is unchanged then.
 #[unsafe(no_mangle)]
-pub extern "C" fn flurry_bytes_remove(alloc: Global, bytes: &mut Bytes, key: &[u8]) -> u8
-    ensures { ((result ≡ NO_MEMORY) × (bytes.new.map ≡ bytes.old.map))
-        ⊎ (Finds (value_of bytes.old key.now) result
-        × (pairs_of bytes.new ≡ without byte_order (pairs_of bytes.old) key.now)) }
+pub extern "C" fn flurry_bytes_remove(bytes: &mut Bytes, key: &[u8]) -> u8
+    ensures found { Finds (value_of bytes.old key.now) result }
+    ensures pairs { pairs_of bytes.new ≡ without byte_order (pairs_of bytes.old) key.now }
 {
-    match bytes.lend().remove(alloc, key) {
-        Ok(true) => PRESENT,
-        Ok(false) => ABSENT,
-        Err(_) => NO_MEMORY,
+    if bytes.lend().remove(key) {
+        PRESENT
+    } else {
+        ABSENT
     }
 }
 

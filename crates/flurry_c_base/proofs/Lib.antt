@@ -1,6 +1,7 @@
 pub mod BufferLaws
 pub mod ByteLaws
 pub mod ByteOrder
+pub mod ByteQueryLaws
 pub mod ByteSetLaws
 pub mod ByteWalkLaws
 pub mod SetInsertionLaws

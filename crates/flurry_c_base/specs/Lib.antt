@@ -1,5 +1,6 @@
 pub mod Buffers
 pub mod ByteMaps
+pub mod ByteQuery
 pub mod ByteSetWalks
 pub mod ByteSets
 pub mod ByteStrings

@@ -7,6 +7,7 @@
 
 pub mod byte_map;
 pub mod byte_pair;
+mod byte_query;
 pub mod byte_set;
 pub mod byte_set_slot;
 pub mod byte_slot;

@@ -40,11 +40,11 @@ impl Map for bytes::SharedMap {
     }
 
     fn has(&self, key: u64) -> bool {
-        self.get(&text(key)).unwrap().is_some()
+        self.get(&text(key)).is_some()
     }
 
     fn remove(&self, key: u64) {
-        bytes::SharedMap::remove(self, &text(key)).unwrap();
+        bytes::SharedMap::remove(self, &text(key));
     }
 }
 

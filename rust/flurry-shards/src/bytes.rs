@@ -6,16 +6,14 @@ use crate::OutOfMemory;
 
 /// A map of one owner. Each call does what it says to a finite map: that is proved.
 ///
-/// Each call of one key copies the key first, so it can return [`OutOfMemory`]. The map is unchanged then.
-///
 /// ```
 /// use flurry_shards::bytes::OwnedMap;
 ///
 /// let mut map = OwnedMap::new()?;
 /// assert!(!map.insert(b"key", b"value")?);
-/// assert_eq!(map.get(b"key")?.as_deref(), Some(&b"value"[..]));
-/// assert!(map.remove(b"key")?);
-/// assert_eq!(map.get(b"key")?, None);
+/// assert_eq!(map.get(b"key").as_deref(), Some(&b"value"[..]));
+/// assert!(map.remove(b"key"));
+/// assert_eq!(map.get(b"key"), None);
 /// # Ok::<(), flurry_shards::OutOfMemory>(())
 /// ```
 pub struct OwnedMap(Bytes);
@@ -41,30 +39,20 @@ impl OwnedMap {
     }
 
     /// Returns `true` if the key is present.
-    ///
-    /// # Errors
-    ///
-    /// Returns [`OutOfMemory`] if memory cannot be allocated.
-    pub fn contains(&mut self, key: &[u8]) -> Result<bool, OutOfMemory> {
+    pub fn contains(&mut self, key: &[u8]) -> bool {
         self.0.contains(key)
     }
 
     /// Returns a copy of the value of the key, or `None` if the key is absent.
-    ///
-    /// # Errors
-    ///
-    /// Returns [`OutOfMemory`] if memory for a copy of the key cannot be allocated.
-    pub fn get(&mut self, key: &[u8]) -> Result<Option<Vec<u8>>, OutOfMemory> {
+    pub fn get(&mut self, key: &[u8]) -> Option<Vec<u8>> {
         let mut value = vec![0; 64];
-        let Some(len) = self.0.get(key, &mut value)? else {
-            return Ok(None);
-        };
+        let len = self.0.get(key, &mut value)?;
         if len > value.len() {
             value = vec![0; len];
             self.0.get(key, &mut value)?;
         }
         value.truncate(len);
-        Ok(Some(value))
+        Some(value)
     }
 
     /// Inserts a pair, and returns `true` if the key was present, so that its value is replaced.
@@ -86,11 +74,7 @@ impl OwnedMap {
     }
 
     /// Removes the pair of the key, and returns `true` if the key was present.
-    ///
-    /// # Errors
-    ///
-    /// Returns [`OutOfMemory`] if memory for a copy of the key cannot be allocated. The map is unchanged.
-    pub fn remove(&mut self, key: &[u8]) -> Result<bool, OutOfMemory> {
+    pub fn remove(&mut self, key: &[u8]) -> bool {
         self.0.remove(key)
     }
 
@@ -99,10 +83,9 @@ impl OwnedMap {
     ///
     /// # Errors
     ///
-    /// Returns [`OutOfMemory`] if memory for a copy of the key cannot be allocated, before `f` runs; or if memory for the pair cannot, once
-    /// `f` has run. The map is unchanged in both cases.
+    /// Returns [`OutOfMemory`] if memory for the pair cannot be allocated, once `f` has run. The map is unchanged.
     pub fn update(&mut self, key: &[u8], f: impl FnOnce(Option<Vec<u8>>) -> Vec<u8>) -> Result<Vec<u8>, OutOfMemory> {
-        let value = f(self.get(key)?);
+        let value = f(self.get(key));
         self.insert(key, &value)?;
         Ok(value)
     }
@@ -182,12 +165,12 @@ impl SharedMap {
     }
 
     /// As [`OwnedMap::contains`].
-    pub fn contains(&self, key: &[u8]) -> Result<bool, OutOfMemory> {
+    pub fn contains(&self, key: &[u8]) -> bool {
         self.0.of(key).contains(key)
     }
 
     /// As [`OwnedMap::get`].
-    pub fn get(&self, key: &[u8]) -> Result<Option<Vec<u8>>, OutOfMemory> {
+    pub fn get(&self, key: &[u8]) -> Option<Vec<u8>> {
         self.0.of(key).get(key)
     }
 
@@ -202,7 +185,7 @@ impl SharedMap {
     }
 
     /// As [`OwnedMap::remove`].
-    pub fn remove(&self, key: &[u8]) -> Result<bool, OutOfMemory> {
+    pub fn remove(&self, key: &[u8]) -> bool {
         self.0.of(key).remove(key)
     }
 

@@ -43,7 +43,7 @@ unsafe extern "C" {
     safe fn flurry_bytes_reserve(bytes: &mut Handle, additional: usize) -> u8;
     safe fn flurry_bytes_size(bytes: &mut Handle) -> usize;
     fn flurry_bytes_free(bytes: &mut Handle);
-    fn flurry_bytes_contains(bytes: &mut Handle, key: *const u8, key_len: usize) -> u8;
+    fn flurry_bytes_contains(bytes: &mut Handle, key: *const u8, key_len: usize) -> bool;
     fn flurry_bytes_get(bytes: &mut Handle, key: *const u8, key_len: usize, value: *mut u8, room: usize, len: &mut usize) -> u8;
     fn flurry_bytes_insert(bytes: &mut Handle, key: *const u8, key_len: usize, value: *const u8, value_len: usize) -> u8;
     fn flurry_bytes_try_insert(bytes: &mut Handle, key: *const u8, key_len: usize, value: *const u8, value_len: usize) -> u8;
@@ -149,17 +149,17 @@ impl Bytes {
         flurry_bytes_len(&mut self.0)
     }
 
-    pub fn contains(&mut self, key: &[u8]) -> Result<bool, OutOfMemory> {
+    pub fn contains(&mut self, key: &[u8]) -> bool {
         // SAFETY: the key is read within its slice.
-        told(unsafe { flurry_bytes_contains(&mut self.0, key.as_ptr(), key.len()) })
+        unsafe { flurry_bytes_contains(&mut self.0, key.as_ptr(), key.len()) }
     }
 
     /// The length of the whole value, of which as much is copied as `value` has room for.
-    pub fn get(&mut self, key: &[u8], value: &mut [u8]) -> Result<Option<usize>, OutOfMemory> {
+    pub fn get(&mut self, key: &[u8], value: &mut [u8]) -> Option<usize> {
         let mut len = 0;
         // SAFETY: the key is read and the value written within its slice.
         let status = unsafe { flurry_bytes_get(&mut self.0, key.as_ptr(), key.len(), value.as_mut_ptr(), value.len(), &mut len) };
-        Ok(told(status)?.then_some(len))
+        (status == PRESENT).then_some(len)
     }
 
     pub fn insert(&mut self, key: &[u8], value: &[u8]) -> Result<bool, OutOfMemory> {
@@ -172,9 +172,9 @@ impl Bytes {
         told(unsafe { flurry_bytes_try_insert(&mut self.0, key.as_ptr(), key.len(), value.as_ptr(), value.len()) })
     }
 
-    pub fn remove(&mut self, key: &[u8]) -> Result<bool, OutOfMemory> {
+    pub fn remove(&mut self, key: &[u8]) -> bool {
         // SAFETY: the key is read within its slice.
-        told(unsafe { flurry_bytes_remove(&mut self.0, key.as_ptr(), key.len()) })
+        unsafe { flurry_bytes_remove(&mut self.0, key.as_ptr(), key.len()) == PRESENT }
     }
 
     pub fn clear(&mut self) {

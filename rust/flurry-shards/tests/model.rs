@@ -118,14 +118,14 @@ fn owned_bytes() -> Result<(), OutOfMemory> {
                 assert_eq!(map.try_insert(&key, &value)?, model.contains_key(&key));
                 model.entry(key).or_insert(value);
             }
-            3..=4 => assert_eq!(map.remove(&key)?, model.remove(&key).is_some()),
-            5 => assert_eq!(map.contains(&key)?, model.contains_key(&key)),
+            3..=4 => assert_eq!(map.remove(&key), model.remove(&key).is_some()),
+            5 => assert_eq!(map.contains(&key), model.contains_key(&key)),
             6 => {
                 let new = half_or(value.clone())(model.get(&key).cloned());
                 assert_eq!(map.update(&key, half_or(value))?, new);
                 model.insert(key, new);
             }
-            _ => assert_eq!(map.get(&key)?.as_ref(), model.get(&key)),
+            _ => assert_eq!(map.get(&key).as_ref(), model.get(&key)),
         }
         if call % 1000 == 0 {
             map.reserve(draws.next(5000) as usize)?;
@@ -262,7 +262,7 @@ fn call_bytes(
     lengths.add(&key, &value);
     match draws.next(6) {
         0 => assert_eq!(map.insert(&key, &value)?, model.insert(key, value).is_some()),
-        1 => assert_eq!(map.remove(&key)?, model.remove(&key).is_some()),
+        1 => assert_eq!(map.remove(&key), model.remove(&key).is_some()),
         2 => {
             assert_eq!(map.try_insert(&key, &value)?, model.contains_key(&key));
             model.entry(key).or_insert(value);
@@ -272,8 +272,8 @@ fn call_bytes(
             assert_eq!(map.update(&key, half_or(value))?, new);
             model.insert(key, new);
         }
-        4 => assert_eq!(map.contains(&key)?, model.contains_key(&key)),
-        _ => assert_eq!(map.get(&key)?.as_ref(), model.get(&key)),
+        4 => assert_eq!(map.contains(&key), model.contains_key(&key)),
+        _ => assert_eq!(map.get(&key).as_ref(), model.get(&key)),
     }
     if draws.next(2000) == 0 {
         assert!(map.len() >= model.len());
@@ -322,7 +322,7 @@ fn no_update_of_bytes_is_lost() -> Result<(), OutOfMemory> {
         }
     });
     for key in 0..100u64 {
-        let mut value = map.get(&key.to_le_bytes())?.unwrap();
+        let mut value = map.get(&key.to_le_bytes()).unwrap();
         value.sort();
         assert_eq!(value, (0..THREADS as u8).flat_map(|thread| [thread; 100]).collect::<Vec<_>>());
     }

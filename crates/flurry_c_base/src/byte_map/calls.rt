@@ -1,4 +1,4 @@
-//! The calls of one key. Each copies the key first.
+//! The calls of one key. An insertion copies the key and the value.
 ghost use Rattle.std.specs.Prelude.{◌≡◌, IfOk, OnErr, is_some};
 ghost use Rattle.std.specs.Option.{option_map};
 ghost use Rattle.flurry_base.specs.FiniteMap.{value_at, with_pair, without};
@@ -6,23 +6,18 @@ ghost use Rattle.flurry_c_base.specs.ByteMaps.{bytes_in, KeepsOrAdds};
 ghost use Rattle.flurry_c_base.specs.ByteStrings.{byte_order};
 
 use super::ByteMap;
+use crate::byte_query::ByteQuery;
 use std::alloc::{AllocError, Global};
 
 impl ByteMap {
     /// Returns the bytes of the value of `key`, or `None` if it is absent.
-    ///
-    /// # Errors
-    ///
-    /// Returns [`AllocError`] if memory for a copy of the key cannot be allocated.
-    #[tactic(auto, using(crate::proofs::ByteLaws::value_at_bytes))]
-    pub fn get(&self, alloc: Global, key: &[u8]) -> Result<Option<&[u8]>, AllocError>
-        ensures { IfOk result
-            (λ found. option_map (λ v. v.now) found ≡ value_at byte_order (bytes_in self.now) key.now) }
+    #[tactic(auto, using(crate::proofs::ByteQueryLaws::value_by_bytes))]
+    pub fn get(&self, key: &[u8]) -> Option<&[u8]>
+        ensures { option_map (λ v. v.now) result ≡ value_at byte_order (bytes_in self.now) key.now }
     {
-        let key = key.to_vec(alloc)?;
-        match self.map.get(&key) {
-            Some(found) => Ok(Some(found.as_slice())),
-            None => Ok(None),
+        match self.map.get(ByteQuery(key)) {
+            Some(found) => Some(found.as_slice()),
+            None => None,
         }
     }
 
@@ -66,17 +61,11 @@ impl ByteMap {
     }
 
     /// Removes the pair of `key`, and returns `true` if there was one.
-    ///
-    /// # Errors
-    ///
-    /// Returns [`AllocError`] if memory for a copy of the key cannot be allocated. The map is unchanged.
-    #[tactic(auto, using(crate::proofs::ByteLaws::value_at_bytes, crate::proofs::ByteLaws::without_bytes))]
-    pub fn remove(&mut self, alloc: Global, key: &[u8]) -> Result<bool, AllocError>
-        ensures found { IfOk result (λ found. found ≡ is_some (value_at byte_order (bytes_in self.old) key.now)) }
-        ensures pairs { IfOk result (λ _. bytes_in self.new ≡ without byte_order (bytes_in self.old) key.now) }
-        ensures err { OnErr result (self.new ≡ self.old) }
+    #[tactic(auto, using(crate::proofs::ByteQueryLaws::value_by_bytes, crate::proofs::ByteQueryLaws::without_by_bytes))]
+    pub fn remove(&mut self, key: &[u8]) -> bool
+        ensures found { result ≡ is_some (value_at byte_order (bytes_in self.old) key.now) }
+        ensures pairs { bytes_in self.new ≡ without byte_order (bytes_in self.old) key.now }
     {
-        let key = key.to_vec(alloc)?;
-        Ok(self.map.remove(&key).is_some())
+        self.map.remove(ByteQuery(key)).is_some()
     }
 }

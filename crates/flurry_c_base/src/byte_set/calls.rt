@@ -1,4 +1,4 @@
-//! The calls of one element. Each copies the element first.
+//! The calls of one element. An insertion copies it.
 ghost use Rattle.std.specs.Prelude.{◌≡◌, IfOk, OnErr, OnOk, is_none, is_some};
 ghost use Rattle.flurry_base.specs.FiniteSet.{element_at, without_element};
 ghost use Rattle.flurry_c_base.specs.ByteStrings.{byte_order};
@@ -6,21 +6,16 @@ ghost use Rattle.flurry_c_base.specs.ByteSets.{elements_in};
 ghost use Rattle.flurry_c_base.specs.SetInsertions.{AddsOrKeeps};
 
 use super::ByteSet;
+use crate::byte_query::ByteQuery;
 use std::alloc::{AllocError, Global};
 
 impl ByteSet {
     /// Returns `true` if the set contains `element`.
-    ///
-    /// # Errors
-    ///
-    /// Returns [`AllocError`] if memory for a copy of the element cannot be allocated.
-    #[tactic(auto, using(crate::proofs::ByteSetLaws::has_element_bytes))]
-    pub fn contains(&self, alloc: Global, element: &[u8]) -> Result<bool, AllocError>
-        ensures { IfOk result
-            (λ found. found ≡ is_some (element_at byte_order (elements_in self.now) element.now)) }
+    #[tactic(auto, using(crate::proofs::ByteQueryLaws::element_by_bytes))]
+    pub fn contains(&self, element: &[u8]) -> bool
+        ensures { result ≡ is_some (element_at byte_order (elements_in self.now) element.now) }
     {
-        let element = element.to_vec(alloc)?;
-        Ok(self.set.contains(&element))
+        self.set.contains(ByteQuery(element))
     }
 
     /// Inserts a copy of `element`, and returns `true` if it was absent. If it was present, nothing changes.
@@ -41,19 +36,11 @@ impl ByteSet {
     }
 
     /// Removes `element`, and returns `true` if it was present.
-    ///
-    /// # Errors
-    ///
-    /// Returns [`AllocError`] if memory for a copy of the element cannot be allocated. The set is unchanged.
-    #[tactic(auto, using(crate::proofs::ByteSetLaws::has_element_bytes, crate::proofs::ByteSetLaws::without_element_bytes))]
-    pub fn remove(&mut self, alloc: Global, element: &[u8]) -> Result<bool, AllocError>
-        ensures found { IfOk result
-            (λ found. found ≡ is_some (element_at byte_order (elements_in self.old) element.now)) }
-        ensures elements { OnOk result
-            (elements_in self.new ≡ without_element byte_order (elements_in self.old) element.now) }
-        ensures err { OnErr result (self.new ≡ self.old) }
+    #[tactic(auto, using(crate::proofs::ByteQueryLaws::element_by_bytes, crate::proofs::ByteQueryLaws::without_element_by_bytes))]
+    pub fn remove(&mut self, element: &[u8]) -> bool
+        ensures found { result ≡ is_some (element_at byte_order (elements_in self.old) element.now) }
+        ensures elements { elements_in self.new ≡ without_element byte_order (elements_in self.old) element.now }
     {
-        let element = element.to_vec(alloc)?;
-        Ok(self.set.remove(&element))
+        self.set.remove(ByteQuery(element))
     }
 }
