@@ -12,8 +12,8 @@
  *     of what was stored, both of them `memory_order_seq_cst`.
  *   - A pointer to a number, or to a buffer of `len` items, is valid for the call: nobody else writes there, and nobody else reads what the
  *     call writes. It is not null, also where there are no items.
- *   - What a call writes overlaps nothing else that is passed to it: the struct of the map or set, a number or a buffer. What it only reads
- *     may overlap, as a key and a value.
+ *   - The struct of the map or set, and each number or buffer that a call writes, overlap nothing else that is passed to it. Buffers that
+ *     it only reads may overlap each other, as those of a key and a value.
  *   - A buffer is aligned as its type is, and has fewer than 2^63 bytes.
  *   - malloc, realloc and free are of one allocator, and align a block to each power of two up to 16 that divides its size.
  *   - No function is called from a signal handler, or in the child after a fork of a process with threads.
