@@ -116,12 +116,18 @@ fn refuses_writes<F: ComputeFn<u64, u64> + Copy, A: Allocator + Copy>(
         row_of(OwnedCall::Compute(1, change), 1, two, values),
     );
     let changed = Close::Reply(KeptReply::Changed { new: 2, old: 1 });
-    for call in [
-        OwnedCall::Alter(1, change),
-        OwnedCall::AlterPresent(1, change),
-    ] {
-        refuses_each(rt, metered, memory, row_of(call, 1, changed, values));
-    }
+    refuses_each(
+        rt,
+        metered,
+        memory,
+        row_of(OwnedCall::Alter(1, change), 1, changed, values),
+    );
+    refuses_each(
+        rt,
+        metered,
+        memory,
+        row_of(OwnedCall::AlterPresent(1, change), 1, changed, values),
+    );
 }
 
 fn refuses_removals<F: ComputeFn<u64, u64> + Copy, A: Allocator + Copy>(
