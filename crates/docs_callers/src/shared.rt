@@ -58,7 +58,6 @@ pub fn raise<R: Wait>(rt: &R, map: &Shared, key: u64, limit: u64) -> Result<Opti
 
 /// Counts a key, up to `limit`, and returns the new count.
 pub fn count<R: Wait>(rt: &R, map: &Shared, key: u64, limit: u64) -> Result<u64, AllocError>
-    requires { 1 ≤ limit }
     ensures { IfOk result (λ r. r ≤ limit) }
 {
     let change = map.compute(
@@ -69,7 +68,7 @@ pub fn count<R: Wait>(rt: &R, map: &Shared, key: u64, limit: u64) -> Result<u64,
         {
             match old {
                 Some(count) => Some((*count).saturating_add(1).min(limit)),
-                None => Some(1),
+                None => Some(limit.min(1)),
             }
         },
     )?;
