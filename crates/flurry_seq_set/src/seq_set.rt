@@ -159,6 +159,8 @@ impl<T: Ord + Drop, S: KeyHasher<T>, A: Allocator> SeqSet<T, S, A> {
     /// assert!(rt; set.contains(&37));
     /// assert!(rt; !set.contains(&38));
     /// ```
+    ///
+    /// An element of the type `String` is found by a `&str` too, without a `String` made for it, as [`Query`](flurry_base::query::Query) tells.
     pub fn contains<Q: HashedQuery<T, S>>(&self, element: Q) -> bool
         ensures found { result ≡ is_some (element_at T.cmp self.now.elements (Q.stands_for element)) }
         ensures ascend { IsFiniteSet T.cmp self.now.elements }

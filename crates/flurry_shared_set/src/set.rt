@@ -149,6 +149,8 @@ impl<T: Ord + Drop, S: KeyHasher<T>, A: Allocator + Copy> HashSet<T, S, A> {
     /// assert!(rt; set.contains(&rt, &37));
     /// assert!(rt; !set.contains(&rt, &38));
     /// ```
+    ///
+    /// An element of the type `String` is found by a `&str` too, without a `String` made for it, as [`Query`](flurry_base::query::Query) tells.
     pub fn contains<Q: HashedQuery<T, S>, R: Wait>(&self, rt: &R, element: Q) -> bool
         ensures { IsAnswerOf T.cmp S.hash_of self.now (ContainsKey (Q.stands_for element)) (contains_answer result) }
     {

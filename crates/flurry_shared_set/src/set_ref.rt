@@ -88,6 +88,8 @@ impl<'m, R: Wait, T: Ord + Drop, S: KeyHasher<T>, A: Allocator + Copy> HashSetRe
     /// assert!(rt; view.contains(&37));
     /// assert!(rt; !view.contains(&38));
     /// ```
+    ///
+    /// An element of the type `String` is found by a `&str` too, without a `String` made for it, as [`Query`](flurry_base::query::Query) tells.
     pub fn contains<Q: HashedQuery<T, S>>(&self, element: Q) -> bool
         ensures { IsAnswerOf T.cmp S.hash_of self.now (ContainsKey (Q.stands_for element)) (contains_answer result) }
     {

@@ -85,8 +85,8 @@ pub(super) fn absent_reply<K, V, A: Allocator>(form: AnswerForm) -> Reply<K, V, 
     }
 }
 
-// Does the first step of a call while there is no table: the call is decided, or the first table is made for it. What the call was given and
-// does not keep is left behind, since it must not be dropped under the control's lock.
+// Does the first step of a call: the call goes on at the published table. While there is none, it is decided, or the first table is made for
+// it; what it was given and does not keep is left behind then, since that must not be dropped under the control's lock.
 fn locate<Q: Query<K>, K: Ord + Drop, V: Drop, F: ComputeFn<K, V>, A: Allocator, R: Room>(
     task: Task<Q, K, V, F, A>,
     control: &mut Control,
