@@ -1,9 +1,9 @@
 //! Counts of words, which threads share.
 
-ghost use Rattle.std.specs.Prelude.{◌≡◌, ◌≤◌, sum_by, IfOk, IfSome};
+ghost use Rattle.std.specs.Prelude.{◌≡◌, ◌≤◌, sum_by, IfOk, IfSome, IsSome};
 
 use flurry::hash::DefaultHashBuilder;
-use flurry::{HashMap, SeqMap, par};
+use flurry::{Change, HashMap, SeqMap, par};
 use std::alloc::{AllocError, Global};
 use std::sync::Wait;
 use std::thread::Threads;
@@ -44,29 +44,19 @@ impl Words {
     pub fn add<R: Wait>(&self, rt: &R, alloc: Global, word: &str) -> Result<u64, AllocError>
         ensures { IfOk result (λ count. 1 ≤ count) }
     {
-        let key = String::from_str(alloc, word)?;
-        if let Some(count) = self.raise(rt, &key)? {
-            return Ok(count);
-        }
-        if let Ok(first) = self.counts.try_insert(rt, key.clone()?, 1)? {
-            return Ok(*first);
-        }
-        // Another thread has inserted the word meanwhile, and no thread removes a word.
-        self.raise(rt, &key)?.ok_or(AllocError)
-    }
-
-    // Counts a word once more if it is present, and returns its new count, or `None` if it is absent.
-    fn raise<R: Wait>(&self, rt: &R, word: &String) -> Result<Option<u64>, AllocError>
-        ensures { IfOk result (λ count. IfSome count (λ n. 1 ≤ n)) }
-    {
-        let count = self.counts.compute_if_present(
+        let change = self.counts.merge(
             rt,
-            word,
-            move |_word: &String, count: &u64| -> Option<u64>
-                ensures { IfSome result (λ n. 1 ≤ n) }
+            String::from_str(alloc, word)?,
+            1,
+            move |count: &u64, _one: u64| -> Option<u64>
+                ensures raised { IfSome result (λ n. 1 ≤ n) }
+                ensures kept { IsSome result }
             { Some((*count).saturating_add(1)) },
         )?;
-        Ok(count.map(|count| *count))
+        match change {
+            Change::Added(count) | Change::Changed(count) => Ok(*count),
+            Change::Absent | Change::Removed(_) => unreachable!(),
+        }
     }
 
     /// Returns the counts, once no thread counts any more.
