@@ -1,4 +1,6 @@
 //! Calls that are driven to their end.
+ghost use Rattle.std.specs.Prelude.{◌≡◌, ⊤};
+ghost use Rattle.flurry_base.specs.Verdicts.{verdict_of};
 
 mod drops;
 mod each_call;
@@ -9,7 +11,7 @@ mod sweeps;
 use crate::Beside;
 use flurry_base::hash::LowHashBuilder;
 use flurry_base::reply::KeptReply;
-use flurry_bins_slots::ComputeFn;
+use flurry_bins_slots::{ComputeFn, Verdict};
 use flurry_steps::party::{OwnedCall, Reply};
 use flurry_steps::{Field, Party};
 use flurry_steps_drive::drive;
@@ -68,6 +70,25 @@ fn without_owners<A: Allocator>(reply: Reply<u64, u64, A>) -> Plain {
         Reply::Refused => return Plain::Refused,
     };
     Plain::OutcomeReply(reply)
+}
+
+// A function that sets this value, or that removes the pair, at any key.
+#[derive(Clone, Copy)]
+struct Becomes(Option<u64>);
+
+impl ComputeFn<u64, u64> for Becomes {
+    ghost can_change = { λ _. ⊤ };
+
+    ghost never_keeps = { λ _. ⊤ };
+
+    ghost changes = { λ f _ _ v. v ≡ verdict_of f.0 };
+
+    fn change<'a>(self, _key: &'a u64, _value: Option<&'a u64>) -> Verdict<u64> {
+        match self.0 {
+            Some(value) => Verdict::Set(value),
+            None => Verdict::Remove,
+        }
+    }
 }
 
 // Drives a call whose key is its hash, and returns its reply.

@@ -1,30 +1,9 @@
 //! Each kind of call, driven over both fields, with its reply and the map after it.
-ghost use Rattle.std.specs.Prelude.{◌≡◌, ⊤};
-ghost use Rattle.flurry_base.specs.Verdicts.{verdict_of};
 
-use super::{Do, Plain, assert_same, over_a_published_table, over_own_parts, value};
+use super::{Becomes, Do, Plain, assert_same, over_a_published_table, over_own_parts, value};
 use flurry_base::reply::KeptReply;
-use flurry_bins_slots::{ComputeFn, Verdict};
+use flurry_bins_slots::ComputeFn;
 use flurry_steps::party::OwnedCall;
-
-// A function that sets this value, or that removes the pair, at any key.
-#[derive(Clone, Copy)]
-struct Becomes(Option<u64>);
-
-impl ComputeFn<u64, u64> for Becomes {
-    ghost can_change = { λ _. ⊤ };
-
-    ghost never_keeps = { λ _. ⊤ };
-
-    ghost changes = { λ f _ _ v. v ≡ verdict_of f.0 };
-
-    fn change<'a>(self, _key: &'a u64, _value: Option<&'a u64>) -> Verdict<u64> {
-        match self.0 {
-            Some(value) => Verdict::Set(value),
-            None => Verdict::Remove,
-        }
-    }
-}
 
 // Adds 2 to a value, or removes the pair if the result would be 10 or more.
 fn two_more(value: u64) -> Option<u64> {

@@ -1,6 +1,7 @@
-//! Each request of a driven insertion fails in turn.
+//! Each request of a driven call that adds a pair fails in turn.
 
-use super::{Plain, assert_same, assert_same_at, reply_of, value};
+use super::{Becomes, Plain, assert_same, assert_same_at, reply_of, value};
+use flurry_base::reply::KeptReply;
 use flurry_bins_slots::{ComputeFn, NoFn};
 use flurry_steps::party::OwnedCall;
 use flurry_steps_world::Parts;
@@ -10,30 +11,33 @@ use std::process::Abort;
 use std::sync::Wait;
 use std::test::Fail;
 
-// Returns the reply of an insertion whose request numbered `k` fails, the reply of a look-up with enough memory, and whether that request
-// was made.
-fn insertion<F: ComputeFn<u64, u64>, A: Allocator + Copy, R: Wait + Abort>(
+// Returns the reply of a call on an empty map whose request numbered `k` fails, the reply of a look-up of the key 7 with enough memory, and
+// whether that request was made.
+fn refused_at<F: ComputeFn<u64, u64>, A: Allocator + Copy, R: Wait + Abort>(
     rt: &R,
     metered: &MeteredAlloc<Global>,
     memory: A,
+    call: OwnedCall<u64, u64, F>,
     k: u64,
 ) -> (Plain, Plain, bool)
     requires { (f : F) → F.can_change f × F.never_keeps f }
 {
     let mut parts: Parts<u64, u64, A> = Parts::new(memory).expect(rt, "memory for the parts");
-    let put: OwnedCall<u64, u64, F> = OwnedCall::Insert(7, 1);
     let look: OwnedCall<u64, u64, F> = OwnedCall::Get(7);
     metered.refuse_at(k);
-    let reply = reply_of(rt, &mut parts, put);
+    let reply = reply_of(rt, &mut parts, call);
     let refused = metered.was_refused();
     metered.refuse_nothing();
     (reply, reply_of(rt, &mut parts, look), refused)
 }
 
-fn refuses_each<F: ComputeFn<u64, u64>, A: Allocator + Copy, R: Wait + Abort>(
+// Makes a call that adds the pair of 7 and 1 once for each of its requests, and once with enough memory, where it has this reply.
+fn refuses_each<F: ComputeFn<u64, u64> + Copy, A: Allocator + Copy, R: Wait + Abort>(
     rt: &R,
     metered: &MeteredAlloc<Global>,
     memory: A,
+    call: OwnedCall<u64, u64, F>,
+    reply: Plain,
 )
     requires { (f : F) → F.can_change f × F.never_keeps f }
 {
@@ -41,9 +45,9 @@ fn refuses_each<F: ComputeFn<u64, u64>, A: Allocator + Copy, R: Wait + Abort>(
         let wanted = if k < 4 {
             (Plain::Refused, value(None), true)
         } else {
-            (value(None), value(Some(1)), false)
+            (reply, value(Some(1)), false)
         };
-        assert_same_at(rt, k, insertion::<F, A, R>(rt, metered, memory, k), wanted);
+        assert_same_at(rt, k, refused_at(rt, metered, memory, call, k), wanted);
         assert_same(rt, metered.live_blocks(), 0);
     }
 }
@@ -52,6 +56,20 @@ fn refuses_each<F: ComputeFn<u64, u64>, A: Allocator + Copy, R: Wait + Abort>(
 #[test]
 fn refused_insertions(rt: HostRuntime) -> Result<(), Fail> {
     let memory = MeteredAlloc::leak(rt.alloc())?;
-    refuses_each::<NoFn, _, _>(&rt, memory, memory);
+    refuses_each::<NoFn, _, _>(&rt, memory, memory, OwnedCall::Insert(7, 1), value(None));
+    Ok(())
+}
+
+#[test]
+fn refused_alterations(rt: HostRuntime) -> Result<(), Fail> {
+    let memory = MeteredAlloc::leak(rt.alloc())?;
+    let new = Plain::OutcomeReply(KeptReply::New(1));
+    refuses_each(
+        &rt,
+        memory,
+        memory,
+        OwnedCall::Alter(7, Becomes(Some(1))),
+        new,
+    );
     Ok(())
 }

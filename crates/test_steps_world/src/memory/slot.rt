@@ -1,10 +1,12 @@
 //! Each request of a slot's steps fails in turn.
+ghost use Rattle.std.specs.Prelude.{◌≡◌, ⊤};
+ghost use Rattle.flurry_base.specs.declared.verdict.Verdict.TheVariants.{Set};
 ghost use Rattle.flurry_bins_slots.specs.Slot.{LiesInBin};
 
 use super::{Memory, assert_same, assert_same_at};
 use flurry_base::sizes::bin_index;
 use flurry_bins::bin::Bin;
-use flurry_bins_slots::{Answer, Computed, Given, Slot};
+use flurry_bins_slots::{Answer, ComputeFn, Computed, Given, Slot, Verdict};
 use metered_alloc::MeteredAlloc;
 use std::alloc::{Allocator, Global};
 use std::process::Abort;
@@ -78,6 +80,60 @@ fn put_of_a_present_key(rt: HostRuntime) -> Result<(), Fail> {
         let refused = k < 1;
         let stands = if refused { (10, 1) } else { (11, 2) };
         let seen = put_at(&rt, memory, &mut slot_of_ten(&rt, memory), k, 11);
+        assert_same_at(&rt, k, seen, (refused, refused, Some(stands)));
+        assert_same_at(&rt, k, memory.live_blocks(), 0);
+    }
+    Ok(())
+}
+
+// A function that sets this value at any key.
+#[derive(Clone, Copy)]
+struct Sets(u64);
+
+impl ComputeFn<u64, u64> for Sets {
+    ghost can_change = { λ _. ⊤ };
+
+    ghost never_keeps = { λ _. ⊤ };
+
+    ghost changes = { λ f _ _ v. v ≡ Set f.0 };
+
+    fn change<'a>(self, _key: &'a u64, _value: Option<&'a u64>) -> Verdict<u64> {
+        Verdict::Set(self.0)
+    }
+}
+
+// Alters the pair of the key of the tests, which then has this value, while one request fails, and returns what happened.
+fn alter_at(rt: &impl Abort, memory: Memory, slot: &mut NumberSlot, k: u64, value: u64) -> Seen {
+    lies_in(rt, slot);
+    memory.refuse_at(k);
+    let failed = slot.alter(memory, 3, 3, Sets(value)).is_err();
+    let refused = memory.was_refused();
+    memory.refuse_nothing();
+    (refused, failed, found(rt, slot))
+}
+
+// At an absent key an alteration that sets a value makes the requests of a new key.
+#[test]
+fn alter_of_a_new_key(rt: HostRuntime) -> Result<(), Fail> {
+    let memory = MeteredAlloc::leak(rt.alloc())?;
+    for k in 0..4u64 {
+        let refused = k < 3;
+        let stands = if refused { None } else { Some((10, 1)) };
+        let seen = alter_at(&rt, memory, &mut empty_slot(), k, 10);
+        assert_same_at(&rt, k, seen, (refused, refused, stands));
+        assert_same_at(&rt, k, memory.live_blocks(), 0);
+    }
+    Ok(())
+}
+
+// At a present key it makes one for the value alone.
+#[test]
+fn alter_of_a_present_key(rt: HostRuntime) -> Result<(), Fail> {
+    let memory = MeteredAlloc::leak(rt.alloc())?;
+    for k in 0..2u64 {
+        let refused = k < 1;
+        let stands = if refused { (10, 1) } else { (11, 2) };
+        let seen = alter_at(&rt, memory, &mut slot_of_ten(&rt, memory), k, 11);
         assert_same_at(&rt, k, seen, (refused, refused, Some(stands)));
         assert_same_at(&rt, k, memory.live_blocks(), 0);
     }
