@@ -4,7 +4,8 @@
 
 use crossbeam_channel::{Receiver, Sender};
 use flurry::HashMap;
-use std::sync::atomic::{AtomicU64, Ordering};
+use std::alloc::{AllocError, Global};
+use std::sync::atomic::{AtomicBool, AtomicU64, Ordering};
 use std::sync::{Condvar, Mutex, Wait};
 use std::thread;
 use std::thread::Threads;
@@ -99,6 +100,102 @@ pub fn share_lock<R: Threads + Wait + Sync>(rt: &R, visits: &AwaitedVisits, ids:
             drop(child);
         }
     });
+}
+
+/// Two maps in a struct: the name of each visitor, and the visitor of each name.
+#[derive(Drop)]
+pub struct Names {
+    names: HashMap<u64, String>,
+    visitors: HashMap<String, u64>,
+}
+
+impl Names {
+    /// Names a visitor.
+    pub fn name<R: Wait>(
+        &self,
+        rt: &R,
+        alloc: Global,
+        id: u64,
+        name: &str,
+    ) -> Result<(), AllocError> {
+        self.names.insert(rt, id, String::from_str(alloc, name)?)?;
+        self.visitors
+            .insert(rt, String::from_str(alloc, name)?, id)?;
+        Ok(())
+    }
+
+    /// Returns `true` if the visitor has a name.
+    pub fn has_name<R: Wait>(&self, rt: &R, id: u64) -> bool {
+        self.names.contains_key(rt, &id)
+    }
+}
+
+/// Gives each of these visitors the same name.
+pub fn name_all<R: Wait>(rt: &R, alloc: Global, names: &Names, ids: &[u64], name: &str) {
+    for id in ids {
+        let _ = names.name(rt, alloc, *id, name);
+    }
+}
+
+/// Notes a visit of each of these visitors that has a name.
+pub fn visit_named<R: Wait>(rt: &R, visits: &Visits, names: &Names, ids: &[u64]) {
+    for id in ids {
+        if names.has_name(rt, *id) {
+            visits.visit(rt, *id, 1);
+        }
+    }
+}
+
+/// Names visitors in one thread, and notes visits of those that have a name in another. One shares a struct, and one shares two.
+pub fn share_two<R: Threads + Wait + Sync>(
+    rt: &R,
+    alloc: Global,
+    visits: &Visits,
+    names: &Names,
+    ids: &[u64],
+    name: &str,
+) {
+    thread::scope(thread::scope_env(), rt, |scope| {
+        let namer = scope.spawn(move || name_all(rt, alloc, names, ids, name));
+        let visitor = scope.spawn(move || visit_named(rt, visits, names, ids));
+        drop(namer);
+        drop(visitor);
+    });
+}
+
+/// Gives a visitor each of these names in turn, and notes in `failed` if memory for one cannot be allocated.
+pub fn rename<R: Wait>(
+    rt: &R,
+    alloc: Global,
+    names: &Names,
+    id: u64,
+    texts: &[String],
+    failed: &AtomicBool,
+) {
+    for text in texts {
+        if names.name(rt, alloc, id, text.as_str()).is_err() {
+            failed.store(true, Ordering::SeqCst);
+        }
+    }
+}
+
+/// Renames two visitors, each in a thread of its own, and returns `true` if memory could be allocated. A list of texts and a flag are
+/// shared beside the struct.
+pub fn share_texts<R: Threads + Wait + Sync>(
+    rt: &R,
+    alloc: Global,
+    names: &Names,
+    texts: &[String],
+) -> bool {
+    let has_failed = AtomicBool::new(false);
+    let failed = &has_failed;
+    thread::scope(thread::scope_env(), rt, |scope| {
+        for id in 0..2u64 {
+            let child = scope.spawn(move || rename(rt, alloc, names, id, texts, failed));
+            drop(child);
+        }
+    });
+    !has_failed.load(Ordering::SeqCst)
 }
 
 /// What one thread owns: where its visits come from, and where those that are first go.
