@@ -109,6 +109,48 @@ pub fn take_token<R: Wait>(rt: &R, map: &Shared, key: u64) -> Result<bool, Alloc
     Ok(was_taken)
 }
 
+/// Counts a word once more. A `String` is made of it only where the word is new.
+pub fn count_word<R: Wait>(
+    rt: &R,
+    alloc: Global,
+    counts: &HashMap<String, u64>,
+    word: &str,
+) -> Result<(), AllocError> {
+    let new = counts.update(rt, word, |_word: &String, count: &u64| -> u64 {
+        count.saturating_add(1)
+    })?;
+    if new.is_none() {
+        let first = String::from_str(alloc, word)?;
+        counts.merge(rt, first, 1, |count: &u64, one: u64| -> Option<u64> {
+            Some(count.saturating_add(one))
+        })?;
+    }
+    Ok(())
+}
+
+/// Appends `more` to the text of a key, and returns `true` if the key is present. The longer text is made while no lock is held, and stored
+/// if the text is still the one that it was made of.
+pub fn append<R: Wait>(
+    rt: &R,
+    alloc: Global,
+    texts: &HashMap<String, String>,
+    key: &str,
+    more: &str,
+) -> Result<bool, AllocError> {
+    for _ in rt.forever() {
+        let Some(text) = texts.get(rt, key)? else {
+            break;
+        };
+        let seen = text.as_str();
+        let is_seen = move |_key: &String, now: &String| -> bool { now.as_str() == seen };
+        let longer = format!(in alloc; "{seen}{more}")?;
+        if texts.replace_if(rt, key, is_seen, longer)?.is_some() {
+            return Ok(true);
+        }
+    }
+    Ok(false)
+}
+
 /// Returns `true` if an element is new to the set, which depends on other threads.
 pub fn visit<R: Wait>(rt: &R, seen: &HashSet<u64>, x: u64) -> Result<bool, AllocError> {
     seen.insert(rt, x)
