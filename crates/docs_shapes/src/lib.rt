@@ -124,7 +124,7 @@ impl Names {
         Ok(())
     }
 
-    /// Returns `true` if the visitor has a name.
+    /// Returns `true` if the visitor has a name, which depends on other threads.
     pub fn has_name<R: Wait>(&self, rt: &R, id: u64) -> bool {
         self.names.contains_key(rt, &id)
     }
