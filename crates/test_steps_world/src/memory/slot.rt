@@ -40,52 +40,6 @@ fn found(rt: &impl Abort, slot: &NumberSlot) -> Option<(u64, u64)> {
     }
 }
 
-// Sets the value of the key of the tests while one request fails, and returns what happened.
-fn put_at(rt: &impl Abort, memory: Memory, slot: &mut NumberSlot, k: u64, value: u64) -> Seen {
-    lies_in(rt, slot);
-    memory.refuse_at(k);
-    let failed = slot.put(memory, 3, 3, Given::Plain(value)).is_err();
-    let refused = memory.was_refused();
-    memory.refuse_nothing();
-    (refused, failed, found(rt, slot))
-}
-
-// Returns a slot in which the key of the tests has the value 10.
-fn slot_of_ten(rt: &impl Abort, memory: Memory) -> NumberSlot {
-    let mut slot = empty_slot();
-    let seen = put_at(rt, memory, &mut slot, u64::MAX, 10);
-    assert_same(rt, seen, (false, false, Some((10, 1))));
-    slot
-}
-
-// A new key makes requests for its key, its value and its node.
-#[test]
-fn put_of_a_new_key(rt: HostRuntime) -> Result<(), Fail> {
-    let memory = MeteredAlloc::leak(rt.alloc())?;
-    for k in 0..4u64 {
-        let refused = k < 3;
-        let stands = if refused { None } else { Some((10, 1)) };
-        let seen = put_at(&rt, memory, &mut empty_slot(), k, 10);
-        assert_same_at(&rt, k, seen, (refused, refused, stands));
-        assert_same_at(&rt, k, memory.live_blocks(), 0);
-    }
-    Ok(())
-}
-
-// A present key makes a request for the value alone.
-#[test]
-fn put_of_a_present_key(rt: HostRuntime) -> Result<(), Fail> {
-    let memory = MeteredAlloc::leak(rt.alloc())?;
-    for k in 0..2u64 {
-        let refused = k < 1;
-        let stands = if refused { (10, 1) } else { (11, 2) };
-        let seen = put_at(&rt, memory, &mut slot_of_ten(&rt, memory), k, 11);
-        assert_same_at(&rt, k, seen, (refused, refused, Some(stands)));
-        assert_same_at(&rt, k, memory.live_blocks(), 0);
-    }
-    Ok(())
-}
-
 // A function that sets this value at any key.
 #[derive(Clone, Copy)]
 struct Sets(u64);
@@ -102,40 +56,70 @@ impl ComputeFn<u64, u64> for Sets {
     }
 }
 
-// Alters the pair of the key of the tests, which then has this value, while one request fails, and returns what happened.
-fn alter_at(rt: &impl Abort, memory: Memory, slot: &mut NumberSlot, k: u64, value: u64) -> Seen {
+// A step that sets the value of the key of the tests, whether or not it is present.
+#[derive(Clone, Copy)]
+enum Write {
+    Put(u64),
+    Alter(u64),
+}
+
+// Does a step that sets the value of the key of the tests while one request fails, and returns what happened.
+fn write_at(rt: &impl Abort, memory: Memory, slot: &mut NumberSlot, k: u64, write: Write) -> Seen {
     lies_in(rt, slot);
     memory.refuse_at(k);
-    let failed = slot.alter(memory, 3, 3, Sets(value)).is_err();
+    let failed = match write {
+        Write::Put(value) => slot.put(memory, 3, 3, Given::Plain(value)).is_err(),
+        Write::Alter(value) => slot.alter(memory, 3, 3, Sets(value)).is_err(),
+    };
     let refused = memory.was_refused();
     memory.refuse_nothing();
     (refused, failed, found(rt, slot))
 }
 
-// At an absent key an alteration that sets a value makes the requests of a new key.
-#[test]
-fn alter_of_a_new_key(rt: HostRuntime) -> Result<(), Fail> {
-    let memory = MeteredAlloc::leak(rt.alloc())?;
+// Returns a slot in which the key of the tests has the value 10.
+fn slot_of_ten(rt: &impl Abort, memory: Memory) -> NumberSlot {
+    let mut slot = empty_slot();
+    let seen = write_at(rt, memory, &mut slot, u64::MAX, Write::Put(10));
+    assert_same(rt, seen, (false, false, Some((10, 1))));
+    slot
+}
+
+// Does a step that sets the value 10 of a new key once for each of its requests: for the key, the value and the node.
+fn writes_a_new_key(rt: &impl Abort, memory: Memory, write: Write) {
     for k in 0..4u64 {
         let refused = k < 3;
         let stands = if refused { None } else { Some((10, 1)) };
-        let seen = alter_at(&rt, memory, &mut empty_slot(), k, 10);
-        assert_same_at(&rt, k, seen, (refused, refused, stands));
-        assert_same_at(&rt, k, memory.live_blocks(), 0);
+        let seen = write_at(rt, memory, &mut empty_slot(), k, write);
+        assert_same_at(rt, k, seen, (refused, refused, stands));
+        assert_same_at(rt, k, memory.live_blocks(), 0);
+    }
+}
+
+#[test]
+fn writes_of_a_new_key(rt: HostRuntime) -> Result<(), Fail> {
+    let memory = MeteredAlloc::leak(rt.alloc())?;
+    for write in [Write::Put(10), Write::Alter(10)] {
+        writes_a_new_key(&rt, memory, write);
     }
     Ok(())
 }
 
-// At a present key it makes one for the value alone.
-#[test]
-fn alter_of_a_present_key(rt: HostRuntime) -> Result<(), Fail> {
-    let memory = MeteredAlloc::leak(rt.alloc())?;
+// Does a step that sets the value 11 of a present key once for each of its requests: for the value alone.
+fn writes_a_present_key(rt: &impl Abort, memory: Memory, write: Write) {
     for k in 0..2u64 {
         let refused = k < 1;
         let stands = if refused { (10, 1) } else { (11, 2) };
-        let seen = alter_at(&rt, memory, &mut slot_of_ten(&rt, memory), k, 11);
-        assert_same_at(&rt, k, seen, (refused, refused, Some(stands)));
-        assert_same_at(&rt, k, memory.live_blocks(), 0);
+        let seen = write_at(rt, memory, &mut slot_of_ten(rt, memory), k, write);
+        assert_same_at(rt, k, seen, (refused, refused, Some(stands)));
+        assert_same_at(rt, k, memory.live_blocks(), 0);
+    }
+}
+
+#[test]
+fn writes_of_a_present_key(rt: HostRuntime) -> Result<(), Fail> {
+    let memory = MeteredAlloc::leak(rt.alloc())?;
+    for write in [Write::Put(11), Write::Alter(11)] {
+        writes_a_present_key(&rt, memory, write);
     }
     Ok(())
 }
