@@ -1,10 +1,11 @@
 //! The maps that are stressed.
 
+use flurry_base::Change;
 use flurry_base::hash::KeyHasher;
 use flurry_shared::HashMap;
 use std::alloc::{AllocError, Global};
 use std::sync::{Arc, Wait};
-use stress_judge::calls::{Call, Reply};
+use stress_judge::calls::{Call, Outcome, Reply, is_even, merged};
 
 /// A map that threads share.
 pub trait Subject: Sized {
@@ -40,8 +41,12 @@ impl<S: KeyHasher<u64> + Default> Subject for HashMap<u64, u64, S> {
             Call::TryInsert(value) => try_insert(rt, self, key, value)?,
             Call::Remove => Reply::Value(number(self.remove(rt, &key))),
             Call::RemoveEntry => Reply::Pair(pair(self.remove_entry(rt, &key))),
-            Call::Compute(value) => compute(rt, self, key, Some(value))?,
-            Call::ComputeNone => compute(rt, self, key, None)?,
+            Call::ComputeIfPresent(new) => compute_if_present(rt, self, key, new)?,
+            Call::Compute(new) => compute(rt, self, key, new)?,
+            Call::Merge(value) => merge(rt, self, key, value)?,
+            Call::Update(value) => update(rt, self, key, value)?,
+            Call::RemoveEven => remove_even(rt, self, key),
+            Call::ReplaceEven(value) => replace_even(rt, self, key, value)?,
         })
     }
 
@@ -78,8 +83,8 @@ fn try_insert<S: KeyHasher<u64>, R: Wait>(
     })
 }
 
-// Computes the value `new`, or none, and records on which value.
-fn compute<S: KeyHasher<u64>, R: Wait>(
+// Makes `new` of a present value, and records of which.
+fn compute_if_present<S: KeyHasher<u64>, R: Wait>(
     rt: &R,
     map: &HashMap<u64, u64, S>,
     key: u64,
@@ -99,4 +104,97 @@ fn compute<S: KeyHasher<u64>, R: Wait>(
         seen,
         returned: number(returned),
     })
+}
+
+// What a call did, with numbers.
+fn outcome_of(change: Change<u64>) -> Outcome {
+    match change {
+        Change::Absent => Outcome::Absent,
+        Change::Added(value) => Outcome::Added(*value),
+        Change::Changed(value) => Outcome::Changed(*value),
+        Change::Removed(value) => Outcome::Removed(*value),
+    }
+}
+
+// Makes `new` of a present value or of none, and records of which.
+fn compute<S: KeyHasher<u64>, R: Wait>(
+    rt: &R,
+    map: &HashMap<u64, u64, S>,
+    key: u64,
+    new: Option<u64>,
+) -> Result<Reply, AllocError> {
+    let mut seen = None;
+    let place = &mut seen;
+    let change = map.compute(
+        rt,
+        key,
+        move |_key: &u64, value: Option<&u64>| -> Option<u64> {
+            *place = value.copied();
+            new
+        },
+    )?;
+    Ok(Reply::Altered {
+        seen,
+        outcome: outcome_of(change),
+    })
+}
+
+// Merges `value` with a present value, and records with which.
+fn merge<S: KeyHasher<u64>, R: Wait>(
+    rt: &R,
+    map: &HashMap<u64, u64, S>,
+    key: u64,
+    value: u64,
+) -> Result<Reply, AllocError> {
+    let mut seen = None;
+    let place = &mut seen;
+    let change = map.merge(rt, key, value, move |old: &u64, new: u64| -> Option<u64> {
+        *place = Some(*old);
+        merged(Some(*old), new)
+    })?;
+    Ok(Reply::Altered {
+        seen,
+        outcome: outcome_of(change),
+    })
+}
+
+// Updates a present value to `new`, and records which it was.
+fn update<S: KeyHasher<u64>, R: Wait>(
+    rt: &R,
+    map: &HashMap<u64, u64, S>,
+    key: u64,
+    new: u64,
+) -> Result<Reply, AllocError> {
+    let mut seen = None;
+    let place = &mut seen;
+    let returned = map.update(rt, &key, move |_key: &u64, value: &u64| -> u64 {
+        *place = Some(*value);
+        new
+    })?;
+    Ok(Reply::Computed {
+        seen,
+        returned: number(returned),
+    })
+}
+
+fn remove_even<S: KeyHasher<u64>, R: Wait>(rt: &R, map: &HashMap<u64, u64, S>, key: u64) -> Reply {
+    let removed = map.remove_if(rt, &key, |_key: &u64, value: &u64| -> bool {
+        is_even(*value)
+    });
+    Reply::Value(number(removed))
+}
+
+fn replace_even<S: KeyHasher<u64>, R: Wait>(
+    rt: &R,
+    map: &HashMap<u64, u64, S>,
+    key: u64,
+    value: u64,
+) -> Result<Reply, AllocError> {
+    let replaced = map.replace_if(
+        rt,
+        &key,
+        |_key: &u64, old: &u64| -> bool { is_even(*old) },
+        value,
+    )?;
+    Ok(Reply::Value(number(replaced)))
 }

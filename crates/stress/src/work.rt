@@ -94,7 +94,7 @@ impl<'r, R: Wait, M: Subject> Worker<'r, R, M> {
     // Draws a call of one key.
     fn draw(&mut self) -> Call {
         let value = self.value();
-        match self.random.below(20) {
+        match self.random.below(30) {
             0..=2 => Call::Get,
             3 => Call::GetKeyValue,
             4 => Call::ContainsKey,
@@ -102,8 +102,14 @@ impl<'r, R: Wait, M: Subject> Worker<'r, R, M> {
             9..=11 => Call::TryInsert(value),
             12..=14 => Call::Remove,
             15 => Call::RemoveEntry,
-            16..=18 => Call::Compute(value),
-            _ => Call::ComputeNone,
+            16..=18 => Call::ComputeIfPresent(Some(value)),
+            19 => Call::ComputeIfPresent(None),
+            20..=22 => Call::Compute(Some(value)),
+            23 => Call::Compute(None),
+            24 | 25 => Call::Merge(value),
+            26 | 27 => Call::Update(value),
+            28 => Call::RemoveEven,
+            _ => Call::ReplaceEven(value),
         }
     }
 

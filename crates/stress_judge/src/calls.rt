@@ -12,10 +12,27 @@ pub enum Call {
     TryInsert(u64),
     Remove,
     RemoveEntry,
-    /// A `compute_if_present` whose function returns this new value.
-    Compute(u64),
-    /// A `compute_if_present` whose function returns `None`.
-    ComputeNone,
+    /// A `compute_if_present` whose function returns this.
+    ComputeIfPresent(Option<u64>),
+    /// A `compute` whose function returns this.
+    Compute(Option<u64>),
+    /// A `merge` of this value by [`merged`].
+    Merge(u64),
+    /// An `update` whose function returns this new value.
+    Update(u64),
+    /// A `remove_if` of an even value.
+    RemoveEven,
+    /// A `replace_if` of an even value by this one.
+    ReplaceEven(u64),
+}
+
+/// What `compute` or `merge` did, with the value that it wrote or removed.
+#[derive(Clone, Copy, PartialEq, Eq)]
+pub enum Outcome {
+    Absent,
+    Added(u64),
+    Changed(u64),
+    Removed(u64),
 }
 
 /// What a call returned.
@@ -34,10 +51,15 @@ pub enum Reply {
         current: u64,
         not_inserted: u64,
     },
-    /// The value on which `compute_if_present` called its function, if it did, and the value that it returned.
+    /// The value on which `compute_if_present` or `update` called its function, if it did, and the value that it returned.
     Computed {
         seen: Option<u64>,
         returned: Option<u64>,
+    },
+    /// The value on which `compute` or `merge` called its function, if there was one, and what it did.
+    Altered {
+        seen: Option<u64>,
+        outcome: Outcome,
     },
 }
 
@@ -53,15 +75,21 @@ impl Call {
             Call::TryInsert(value) => added(value, now),
             Call::Remove => (Reply::Value(now), None),
             Call::RemoveEntry => (pair_of(key, now), None),
-            Call::Compute(value) => computed(now, Some(value)),
-            Call::ComputeNone => computed(now, None),
+            Call::ComputeIfPresent(new) => computed(now, new),
+            Call::Compute(new) => altered(now, new),
+            Call::Merge(value) => altered(now, merged(now, value)),
+            Call::Update(value) => computed(now, Some(value)),
+            Call::RemoveEven => replaced(now, None),
+            Call::ReplaceEven(value) => replaced(now, Some(value)),
         }
     }
 
     /// Returns the value that the call may write.
     pub fn value(self) -> Option<u64> {
         match self {
-            Call::Insert(value) | Call::TryInsert(value) | Call::Compute(value) => Some(value),
+            Call::Insert(value) | Call::TryInsert(value) => Some(value),
+            Call::ComputeIfPresent(new) | Call::Compute(new) => new,
+            Call::Merge(value) | Call::Update(value) | Call::ReplaceEven(value) => Some(value),
             _ => None,
         }
     }
@@ -92,11 +120,44 @@ fn added(value: u64, now: Option<u64>) -> (Reply, Option<u64>) {
     }
 }
 
-// Returns the reply of `compute_if_present`, whose function returns `new`, and the value after it.
+// Returns the reply of `compute_if_present` or `update`, whose function returns `new`, and the value after it.
 fn computed(now: Option<u64>, new: Option<u64>) -> (Reply, Option<u64>) {
     let returned = if now.is_some() { new } else { None };
     let seen = now;
     (Reply::Computed { seen, returned }, returned)
+}
+
+/// Returns the value that a `merge` of `value` leaves: `value`, or none where the value `now` is odd.
+pub fn merged(now: Option<u64>, value: u64) -> Option<u64> {
+    match now {
+        Some(old) if !is_even(old) => None,
+        _ => Some(value),
+    }
+}
+
+/// Returns `true` if `remove_if` and `replace_if` take this value away.
+pub fn is_even(value: u64) -> bool {
+    value % 2 == 0
+}
+
+// Returns the reply of `compute` or `merge`, after which the value is `new`, and that value.
+fn altered(now: Option<u64>, new: Option<u64>) -> (Reply, Option<u64>) {
+    let outcome = match (now, new) {
+        (None, None) => Outcome::Absent,
+        (None, Some(value)) => Outcome::Added(value),
+        (Some(_), Some(value)) => Outcome::Changed(value),
+        (Some(old), None) => Outcome::Removed(old),
+    };
+    let seen = now;
+    (Reply::Altered { seen, outcome }, new)
+}
+
+// Returns the reply of `remove_if` or `replace_if`, which puts `new` in the place of an even value, and the value after it.
+fn replaced(now: Option<u64>, new: Option<u64>) -> (Reply, Option<u64>) {
+    match now {
+        Some(old) if is_even(old) => (Reply::Value(now), new),
+        _ => (Reply::Value(None), now),
+    }
 }
 
 /// A call that has returned.
@@ -131,9 +192,16 @@ impl Event {
             Call::Get | Call::GetKeyValue | Call::ContainsKey => true,
             Call::Insert(_) => false,
             Call::TryInsert(value) => self.reply != Reply::Added(value),
-            Call::Remove | Call::RemoveEntry | Call::Compute(_) | Call::ComputeNone => {
-                self.apply(None).is_some()
+            Call::Compute(_) | Call::Merge(_) => {
+                let (seen, outcome) = (None, Outcome::Absent);
+                self.reply == Reply::Altered { seen, outcome }
             }
+            Call::Remove
+            | Call::RemoveEntry
+            | Call::ComputeIfPresent(_)
+            | Call::Update(_)
+            | Call::RemoveEven
+            | Call::ReplaceEven(_) => self.apply(None).is_some(),
         }
     }
 }
@@ -161,8 +229,23 @@ impl Display for Call {
             Call::TryInsert(value) => write!(f, "try_insert {value}"),
             Call::Remove => write!(f, "remove"),
             Call::RemoveEntry => write!(f, "remove_entry"),
-            Call::Compute(value) => write!(f, "compute_if_present to {value}"),
-            Call::ComputeNone => write!(f, "compute_if_present to none"),
+            Call::ComputeIfPresent(new) => write!(f, "compute_if_present to {}", Shown(new)),
+            Call::Compute(new) => write!(f, "compute to {}", Shown(new)),
+            Call::Merge(value) => write!(f, "merge {value}"),
+            Call::Update(value) => write!(f, "update to {value}"),
+            Call::RemoveEven => write!(f, "remove_if even"),
+            Call::ReplaceEven(value) => write!(f, "replace_if even by {value}"),
+        }
+    }
+}
+
+impl Display for Outcome {
+    fn fmt<W: fmt::Write>(&self, f: &mut Formatter<W>) -> fmt::Result {
+        match *self {
+            Outcome::Absent => write!(f, "absent"),
+            Outcome::Added(value) => write!(f, "added {value}"),
+            Outcome::Changed(value) => write!(f, "changed to {value}"),
+            Outcome::Removed(value) => write!(f, "removed {value}"),
         }
     }
 }
@@ -180,6 +263,7 @@ impl Display for Reply {
             Reply::Computed { seen, returned } => {
                 write!(f, "{} from {}", Shown(returned), Shown(seen))
             }
+            Reply::Altered { seen, outcome } => write!(f, "{outcome} from {}", Shown(seen)),
         }
     }
 }

@@ -8,7 +8,7 @@ mod unlawful;
 
 use std::alloc::Global;
 use std::process::Abort;
-use stress_judge::calls::{Call, Event, Reply};
+use stress_judge::calls::{Call, Event, Outcome, Reply};
 use stress_judge::judging::{Verdict, judge};
 
 // The key of all calls.
@@ -39,6 +39,16 @@ fn get(thread: u64, start: u64, end: u64, found: Option<u64>) -> Event {
 // A removal that finds this.
 fn remove(thread: u64, start: u64, end: u64, found: Option<u64>) -> Event {
     event(thread, start, end, Call::Remove, Reply::Value(found))
+}
+
+// What a `compute` or a `merge` replies whose function saw a value or none.
+fn altered(seen: Option<u64>, outcome: Outcome) -> Reply {
+    Reply::Altered { seen, outcome }
+}
+
+// What a `compute_if_present` or an `update` replies whose function saw a value or was not called.
+fn computed(seen: Option<u64>, returned: Option<u64>) -> Reply {
+    Reply::Computed { seen, returned }
 }
 
 // The verdict on the calls, of a key that is absent at first.

@@ -43,7 +43,7 @@ fn random_value(random: &mut Random) -> Option<u64> {
 
 fn random_call(random: &mut Random) -> Call {
     let value = random.below(3).saturating_add(1);
-    match random.below(10) {
+    match random.below(16) {
         0 => Call::Get,
         1 => Call::GetKeyValue,
         2 => Call::ContainsKey,
@@ -51,8 +51,14 @@ fn random_call(random: &mut Random) -> Call {
         5 => Call::TryInsert(value),
         6 => Call::Remove,
         7 => Call::RemoveEntry,
-        8 => Call::Compute(value),
-        _ => Call::ComputeNone,
+        8 => Call::ComputeIfPresent(Some(value)),
+        9 => Call::ComputeIfPresent(None),
+        10 => Call::Compute(Some(value)),
+        11 => Call::Compute(None),
+        12 => Call::Merge(value),
+        13 => Call::Update(value),
+        14 => Call::RemoveEven,
+        _ => Call::ReplaceEven(value),
     }
 }
 

@@ -1,7 +1,7 @@
 //! Histories that an order explains.
 
-use super::{check_lawful, event, get, insert, remove};
-use stress_judge::calls::{Call, Reply};
+use super::{altered, check_lawful, computed, event, get, insert, remove};
+use stress_judge::calls::{Call, Outcome, Reply};
 
 #[test]
 fn no_call(rt: HostRuntime) {
@@ -11,35 +11,107 @@ fn no_call(rt: HostRuntime) {
 // Each call, one after another, on an absent and then on a present key.
 #[test]
 fn each_call_alone(rt: HostRuntime) {
-    let absent = Reply::Computed {
-        seen: None,
-        returned: None,
-    };
     let kept = Reply::Kept {
         current: 5,
         not_inserted: 6,
     };
-    let computed = Reply::Computed {
-        seen: Some(5),
-        returned: Some(8),
-    };
-    let removed = Reply::Computed {
-        seen: Some(8),
-        returned: None,
-    };
     let events = [
         get(0, 1, 2, None),
-        event(1, 3, 4, Call::Compute(4), absent),
+        event(
+            1,
+            3,
+            4,
+            Call::ComputeIfPresent(Some(4)),
+            computed(None, None),
+        ),
         event(0, 5, 6, Call::TryInsert(5), Reply::Added(5)),
         event(1, 7, 8, Call::TryInsert(6), kept),
         event(0, 9, 10, Call::GetKeyValue, Reply::Pair(Some((7, 5)))),
-        event(1, 11, 12, Call::Compute(8), computed),
+        event(
+            1,
+            11,
+            12,
+            Call::ComputeIfPresent(Some(8)),
+            computed(Some(5), Some(8)),
+        ),
         event(0, 13, 14, Call::ContainsKey, Reply::Presence(true)),
-        event(1, 15, 16, Call::ComputeNone, removed),
+        event(
+            1,
+            15,
+            16,
+            Call::ComputeIfPresent(None),
+            computed(Some(8), None),
+        ),
         remove(0, 17, 18, None),
         insert(1, 19, 20, 9, None),
         event(0, 21, 22, Call::RemoveEntry, Reply::Pair(Some((7, 9)))),
         event(1, 23, 24, Call::ContainsKey, Reply::Presence(false)),
+    ];
+    check_lawful(&rt, rt.alloc(), &events);
+}
+
+// `compute`, `merge` and `update`, one after another, on an absent key, an even value and an odd one.
+#[test]
+fn each_call_by_a_function(rt: HostRuntime) {
+    let events = [
+        event(0, 1, 2, Call::Compute(None), altered(None, Outcome::Absent)),
+        event(
+            1,
+            3,
+            4,
+            Call::Compute(Some(4)),
+            altered(None, Outcome::Added(4)),
+        ),
+        event(
+            0,
+            5,
+            6,
+            Call::Compute(Some(6)),
+            altered(Some(4), Outcome::Changed(6)),
+        ),
+        event(
+            1,
+            7,
+            8,
+            Call::Merge(5),
+            altered(Some(6), Outcome::Changed(5)),
+        ),
+        event(
+            0,
+            9,
+            10,
+            Call::Merge(7),
+            altered(Some(5), Outcome::Removed(5)),
+        ),
+        event(1, 11, 12, Call::Merge(8), altered(None, Outcome::Added(8))),
+        event(0, 13, 14, Call::Update(9), computed(Some(8), Some(9))),
+        event(
+            1,
+            15,
+            16,
+            Call::Compute(None),
+            altered(Some(9), Outcome::Removed(9)),
+        ),
+        event(0, 17, 18, Call::Update(3), computed(None, None)),
+        get(1, 19, 20, None),
+    ];
+    check_lawful(&rt, rt.alloc(), &events);
+}
+
+// `remove_if` and `replace_if` take an even value away, and leave an odd one.
+#[test]
+fn each_call_by_a_test(rt: HostRuntime) {
+    let (even, odd) = (Reply::Value(Some(4)), Reply::Value(None));
+    let events = [
+        event(0, 1, 2, Call::ReplaceEven(5), odd),
+        event(1, 3, 4, Call::RemoveEven, odd),
+        insert(0, 5, 6, 4, None),
+        event(1, 7, 8, Call::ReplaceEven(5), even),
+        event(0, 9, 10, Call::ReplaceEven(6), odd),
+        event(1, 11, 12, Call::RemoveEven, odd),
+        insert(0, 13, 14, 4, Some(5)),
+        event(1, 15, 16, Call::RemoveEven, even),
+        get(0, 17, 18, None),
     ];
     check_lawful(&rt, rt.alloc(), &events);
 }
@@ -92,12 +164,14 @@ fn a_removal_between_two_insertions(rt: HostRuntime) {
 // A computation removes the key while it is present, so it cannot come before the insertion, at which it would do nothing.
 #[test]
 fn a_computation_that_waits(rt: HostRuntime) {
-    let removed = Reply::Computed {
-        seen: Some(5),
-        returned: None,
-    };
     let events = [
-        event(0, 1, 6, Call::ComputeNone, removed),
+        event(
+            0,
+            1,
+            6,
+            Call::ComputeIfPresent(None),
+            computed(Some(5), None),
+        ),
         insert(1, 2, 3, 5, None),
         get(1, 4, 5, Some(5)),
         get(1, 7, 8, None),

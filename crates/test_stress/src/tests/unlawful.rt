@@ -1,7 +1,7 @@
 //! Histories that no order explains.
 
-use super::{check_unlawful, event, get, insert, remove};
-use stress_judge::calls::{Call, Reply};
+use super::{altered, check_unlawful, computed, event, get, insert, remove};
+use stress_judge::calls::{Call, Outcome, Reply};
 
 // The second insertion is lost: the third finds what the first wrote.
 #[test]
@@ -88,14 +88,71 @@ fn a_removed_key_comes_back(rt: HostRuntime) {
 // A computation returns the new value, and the function saw a value that was already replaced.
 #[test]
 fn a_computation_on_an_old_value(rt: HostRuntime) {
-    let computed = Reply::Computed {
-        seen: Some(5),
-        returned: Some(9),
-    };
     let events = [
         insert(0, 1, 2, 5, None),
         insert(0, 3, 4, 6, Some(5)),
-        event(1, 5, 6, Call::Compute(9), computed),
+        event(
+            1,
+            5,
+            6,
+            Call::ComputeIfPresent(Some(9)),
+            computed(Some(5), Some(9)),
+        ),
+    ];
+    check_unlawful(&rt, rt.alloc(), &events);
+}
+
+// Two overlapping calls by a function see the same value, so what one of them wrote is lost.
+#[test]
+fn two_merges_with_one_value(rt: HostRuntime) {
+    let events = [
+        insert(0, 1, 2, 4, None),
+        event(
+            0,
+            3,
+            5,
+            Call::Merge(6),
+            altered(Some(4), Outcome::Changed(6)),
+        ),
+        event(
+            1,
+            4,
+            6,
+            Call::Merge(8),
+            altered(Some(4), Outcome::Changed(8)),
+        ),
+    ];
+    check_unlawful(&rt, rt.alloc(), &events);
+}
+
+// Two overlapping calls each add a value at an absent key.
+#[test]
+fn two_computations_that_add(rt: HostRuntime) {
+    let events = [
+        event(
+            0,
+            1,
+            3,
+            Call::Compute(Some(5)),
+            altered(None, Outcome::Added(5)),
+        ),
+        event(
+            1,
+            2,
+            4,
+            Call::Compute(Some(6)),
+            altered(None, Outcome::Added(6)),
+        ),
+    ];
+    check_unlawful(&rt, rt.alloc(), &events);
+}
+
+// A removal by a test takes an odd value away.
+#[test]
+fn an_odd_value_is_removed(rt: HostRuntime) {
+    let events = [
+        insert(0, 1, 2, 5, None),
+        event(1, 3, 4, Call::RemoveEven, Reply::Value(Some(5))),
     ];
     check_unlawful(&rt, rt.alloc(), &events);
 }
