@@ -26,7 +26,7 @@ impl<K: Ord + Drop, V: Drop, S: KeyHasher<K>, A: Allocator + Copy> HashMap<K, V,
     /// for _ in 0..3 {
     ///     map.compute(&rt, 37, |_key: &u64, old: Option<&u64>| -> Option<u64> {
     ///         match old {
-    ///             Some(count) => count.checked_add(1),
+    ///             Some(count) => Some(count.saturating_add(1)),
     ///             None => Some(1),
     ///         }
     ///     })?;
@@ -68,7 +68,7 @@ impl<K: Ord + Drop, V: Drop, S: KeyHasher<K>, A: Allocator + Copy> HashMap<K, V,
     /// ```
     /// let map: HashMap<u64, u64> = HashMap::new(rt.alloc());
     /// for amount in [20, 22] {
-    ///     map.merge(&rt, 37, amount, |old: &u64, new: u64| -> Option<u64> { old.checked_add(new) })?;
+    ///     map.merge(&rt, 37, amount, |old: &u64, new: u64| -> Option<u64> { Some(old.saturating_add(new)) })?;
     /// }
     /// assert_eq!(rt; map.get(&rt, &37)?.map(|sum| *sum), Some(42));
     /// ```
@@ -100,8 +100,8 @@ impl<K: Ord + Drop, V: Drop, S: KeyHasher<K>, A: Allocator + Copy> HashMap<K, V,
     /// ```
     /// let map: HashMap<u64, u64> = HashMap::new(rt.alloc());
     /// map.insert(&rt, 37, 1)?;
-    /// let new = map.update(&rt, &37, |key: &u64, _value: &u64| -> u64 { *key / 2 })?;
-    /// assert_eq!(rt; new.map(|new| *new), Some(18));
+    /// let new = map.update(&rt, &37, |_key: &u64, value: &u64| -> u64 { value.saturating_add(1) })?;
+    /// assert_eq!(rt; new.map(|new| *new), Some(2));
     /// let absent = map.update(&rt, &38, |_key: &u64, value: &u64| -> u64 { *value })?;
     /// assert!(rt; absent.is_none());
     /// ```

@@ -36,7 +36,7 @@ impl<'m, R: Wait, K: Ord + Drop, V: Drop, S: KeyHasher<K>, A: Allocator + Copy> 
     /// for _ in 0..3 {
     ///     view.compute(37, |_key: &u64, old: Option<&u64>| -> Option<u64> {
     ///         match old {
-    ///             Some(count) => count.checked_add(1),
+    ///             Some(count) => Some(count.saturating_add(1)),
     ///             None => Some(1),
     ///         }
     ///     })?;
@@ -86,7 +86,7 @@ impl<'m, R: Wait, K: Ord + Drop, V: Drop, S: KeyHasher<K>, A: Allocator + Copy> 
     /// let map: HashMap<u64, u64> = HashMap::new(rt.alloc());
     /// let view = map.pin(&rt);
     /// for amount in [20, 22] {
-    ///     view.merge(37, amount, |old: &u64, new: u64| -> Option<u64> { old.checked_add(new) })?;
+    ///     view.merge(37, amount, |old: &u64, new: u64| -> Option<u64> { Some(old.saturating_add(new)) })?;
     /// }
     /// assert_eq!(rt; view.get(&37)?.map(|sum| *sum), Some(42));
     /// ```
@@ -125,8 +125,8 @@ impl<'m, R: Wait, K: Ord + Drop, V: Drop, S: KeyHasher<K>, A: Allocator + Copy> 
     /// let map: HashMap<u64, u64> = HashMap::new(rt.alloc());
     /// let view = map.pin(&rt);
     /// view.insert(37, 1)?;
-    /// let new = view.update(&37, |key: &u64, _value: &u64| -> u64 { *key / 2 })?;
-    /// assert_eq!(rt; new.map(|new| *new), Some(18));
+    /// let new = view.update(&37, |_key: &u64, value: &u64| -> u64 { value.saturating_add(1) })?;
+    /// assert_eq!(rt; new.map(|new| *new), Some(2));
     /// let absent = view.update(&38, |_key: &u64, value: &u64| -> u64 { *value })?;
     /// assert!(rt; absent.is_none());
     /// ```

@@ -330,7 +330,7 @@ impl<'m, R: Wait, K: Ord + Drop, V: Drop, S: KeyHasher<K>, A: Allocator + Copy> 
     /// let view = map.pin(&rt);
     /// view.insert(37, 1)?;
     /// let new = view.compute_if_present(&37, |_key: &u64, value: &u64| -> Option<u64> {
-    ///     value.checked_add(1)
+    ///     Some(value.saturating_add(1))
     /// })?;
     /// assert_eq!(rt; new.map(|new| *new), Some(2));
     ///

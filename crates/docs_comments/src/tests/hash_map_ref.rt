@@ -71,7 +71,7 @@ fn compute_if_present(rt: HostRuntime) -> Result<(), Fail> {
     let view = map.pin(&rt);
     view.insert(37, 1)?;
     let new = view.compute_if_present(&37, |_key: &u64, value: &u64| -> Option<u64> {
-        value.checked_add(1)
+        Some(value.saturating_add(1))
     })?;
     assert_eq!(rt; new.map(|new| *new), Some(2));
 
@@ -156,7 +156,7 @@ fn compute(rt: HostRuntime) -> Result<(), Fail> {
     for _ in 0..3 {
         view.compute(37, |_key: &u64, old: Option<&u64>| -> Option<u64> {
             match old {
-                Some(count) => count.checked_add(1),
+                Some(count) => Some(count.saturating_add(1)),
                 None => Some(1),
             }
         })?;
@@ -176,7 +176,7 @@ fn merge(rt: HostRuntime) -> Result<(), Fail> {
     let view = map.pin(&rt);
     for amount in [20, 22] {
         view.merge(37, amount, |old: &u64, new: u64| -> Option<u64> {
-            old.checked_add(new)
+            Some(old.saturating_add(new))
         })?;
     }
     assert_eq!(rt; view.get(&37)?.map(|sum| *sum), Some(42));
@@ -188,8 +188,10 @@ fn update(rt: HostRuntime) -> Result<(), Fail> {
     let map: HashMap<u64, u64> = HashMap::new(rt.alloc());
     let view = map.pin(&rt);
     view.insert(37, 1)?;
-    let new = view.update(&37, |key: &u64, _value: &u64| -> u64 { *key / 2 })?;
-    assert_eq!(rt; new.map(|new| *new), Some(18));
+    let new = view.update(&37, |_key: &u64, value: &u64| -> u64 {
+        value.saturating_add(1)
+    })?;
+    assert_eq!(rt; new.map(|new| *new), Some(2));
     let absent = view.update(&38, |_key: &u64, value: &u64| -> u64 { *value })?;
     assert!(rt; absent.is_none());
     Ok(())

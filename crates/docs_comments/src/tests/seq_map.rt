@@ -82,7 +82,7 @@ fn compute_if_present(rt: HostRuntime) -> Result<(), Fail> {
     let mut map: SeqMap<u64, u64> = SeqMap::new(rt.alloc());
     map.insert(37, 1)?;
     let new = map.compute_if_present(&37, |_key: &u64, value: &u64| -> Option<u64> {
-        value.checked_add(1)
+        Some(value.saturating_add(1))
     })?;
     assert_eq!(rt; new.map(|new| *new), Some(2));
 
@@ -98,7 +98,7 @@ fn compute(rt: HostRuntime) -> Result<(), Fail> {
     for _ in 0..3 {
         map.compute(37, |_key: &u64, old: Option<&u64>| -> Option<u64> {
             match old {
-                Some(count) => count.checked_add(1),
+                Some(count) => Some(count.saturating_add(1)),
                 None => Some(1),
             }
         })?;
@@ -117,7 +117,7 @@ fn merge(rt: HostRuntime) -> Result<(), Fail> {
     let mut map: SeqMap<u64, u64> = SeqMap::new(rt.alloc());
     for amount in [20, 22] {
         map.merge(37, amount, |old: &u64, new: u64| -> Option<u64> {
-            old.checked_add(new)
+            Some(old.saturating_add(new))
         })?;
     }
     assert_eq!(rt; map.get(&37).map(|sum| **sum), Some(42));
@@ -133,8 +133,10 @@ fn merge(rt: HostRuntime) -> Result<(), Fail> {
 fn update(rt: HostRuntime) -> Result<(), Fail> {
     let mut map: SeqMap<u64, u64> = SeqMap::new(rt.alloc());
     map.insert(37, 1)?;
-    let new = map.update(&37, |key: &u64, _value: &u64| -> u64 { *key / 2 })?;
-    assert_eq!(rt; new.map(|new| *new), Some(18));
+    let new = map.update(&37, |_key: &u64, value: &u64| -> u64 {
+        value.saturating_add(1)
+    })?;
+    assert_eq!(rt; new.map(|new| *new), Some(2));
     let absent = map.update(&38, |_key: &u64, value: &u64| -> u64 { *value })?;
     assert!(rt; absent.is_none());
     Ok(())

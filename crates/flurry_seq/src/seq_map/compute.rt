@@ -42,7 +42,7 @@ impl<K: Ord + Drop, V: Drop, S: KeyHasher<K>, A: Allocator + Copy> SeqMap<K, V, 
     /// let mut map: SeqMap<u64, u64> = SeqMap::new(rt.alloc());
     /// map.insert(37, 1)?;
     /// let new = map.compute_if_present(&37, |_key: &u64, value: &u64| -> Option<u64> {
-    ///     value.checked_add(1)
+    ///     Some(value.saturating_add(1))
     /// })?;
     /// assert_eq!(rt; new.map(|new| *new), Some(2));
     ///
