@@ -13,6 +13,7 @@ use flurry_bins_slots::{
     Verdict,
 };
 use std::alloc::{AllocError, Global};
+use std::process::Abort;
 
 // Why a step was not done at a live bin.
 #[derive(Clone, Copy, Debug, PartialEq, Eq)]
@@ -282,33 +283,45 @@ fn alterations_where_no_bin_is_live(rt: HostRuntime) {
     assert_same(&rt, seen, Err(Away::Unborn));
 }
 
+// A live slot into which the key 3 was put, then its value was halved to 5, and then the key 19 was put: its writes have the numbers up to 3.
+fn with_two_keys(rt: &impl Abort, alloc: Global) -> Slot<u64, u64> {
+    let mut slot: Slot<u64, u64> = Slot::live(4, 3, Bin::new());
+    assert_same(rt, put(alloc, &mut slot, 3, 3, 10), Ok((None, false)));
+    assert_same(rt, halve(alloc, &mut slot, 3, 3), Ok(Some(Some(5))));
+    assert_same(rt, put(alloc, &mut slot, 19, 19, 12), Ok((None, false)));
+    slot
+}
+
 #[test]
-fn steps_at_a_live_bin(rt: HostRuntime) {
+fn insertions_at_a_live_bin(rt: HostRuntime) {
     let mut slot: Slot<u64, u64> = Slot::live(4, 3, Bin::new());
     assert_same(&rt, slot.at(), (4, 3));
-    assert_same(&rt, put_absent(rt.alloc(), &mut slot, 3, 3, 10), Ok(Ok(10)));
-    assert_same(
-        &rt,
-        put_absent(rt.alloc(), &mut slot, 3, 3, 11),
-        Ok(Err((10, 11))),
-    );
+    let seen = put_absent(rt.alloc(), &mut slot, 3, 3, 10);
+    assert_same(&rt, seen, Ok(Ok(10)));
+    let seen = put_absent(rt.alloc(), &mut slot, 3, 3, 11);
+    assert_same(&rt, seen, Ok(Err((10, 11))));
     assert_same(&rt, find(&slot, 3, 3), Ok(Some((10, 1))));
-    assert_same(&rt, halve(rt.alloc(), &mut slot, 19, 19), Ok(None));
-    assert_same(&rt, halve(rt.alloc(), &mut slot, 3, 3), Ok(Some(Some(5))));
+}
+
+#[test]
+fn reads_at_a_live_bin(rt: HostRuntime) {
+    let mut slot = with_two_keys(&rt, rt.alloc());
+    assert_same(&rt, halve(rt.alloc(), &mut slot, 35, 35), Ok(None));
     assert_same(&rt, find(&slot, 3, 3), Ok(Some((5, 2))));
-    assert_same(
-        &rt,
-        put(rt.alloc(), &mut slot, 19, 19, 12),
-        Ok((None, false)),
-    );
     assert_same(&rt, next_after(&slot, None), Ok(Some((5, 2))));
     assert_same(&rt, next_after(&slot, Some((3, &3))), Ok(Some((12, 3))));
     assert_same(&rt, next_after(&slot, Some((19, &19))), Ok(None));
+}
+
+#[test]
+fn removals_at_a_live_bin(rt: HostRuntime) {
+    let mut slot = with_two_keys(&rt, rt.alloc());
     assert_same(&rt, remove(rt.alloc(), &mut slot, 3, 3), Ok(true));
     assert_same(&rt, take(&mut slot, 3, 3), Ok(None));
     assert_same(&rt, here(slot.wipe()), Ok(1));
     assert_same(&rt, here(slot.wipe()), Ok(0));
-    assert_same(&rt, put(rt.alloc(), &mut slot, 3, 3, 13), Ok((None, false)));
+    let seen = put(rt.alloc(), &mut slot, 3, 3, 13);
+    assert_same(&rt, seen, Ok((None, false)));
     assert_same(&rt, find(&slot, 3, 3), Ok(Some((13, 4))));
 }
 
@@ -339,41 +352,58 @@ fn steps_where_no_bin_is_yet(rt: HostRuntime) {
     assert_same(&rt, here(slot.wipe()), Err(Away::Unborn));
 }
 
-#[test]
-fn a_bin_moves_into_its_halves(rt: HostRuntime) {
+// A live slot of the table 4 with the keys 3, 19 and 35, each its own value.
+fn with_three_keys(rt: &impl Abort, alloc: Global) -> Slot<u64, u64> {
     let mut slot: Slot<u64, u64> = Slot::live(4, 3, Bin::new());
     for key in [3, 19, 35] {
-        let seen = put(rt.alloc(), &mut slot, key, key, key);
-        assert_same(&rt, seen, Ok((None, false)));
+        let seen = put(alloc, &mut slot, key, key, key);
+        assert_same(rt, seen, Ok((None, false)));
     }
+    slot
+}
+
+// Such a slot, and the two halves into which it has moved.
+fn halves(rt: &impl Abort, alloc: Global) -> (Slot<u64, u64>, Slot<u64, u64>, Slot<u64, u64>) {
+    let mut slot = with_three_keys(rt, alloc);
+    let mut low: Slot<u64, u64> = Slot::unborn(5, 3);
+    let mut high: Slot<u64, u64> = Slot::unborn(5, 19);
+    let seen = moved(slot.move_into(&mut low, &mut high));
+    assert_same(rt, seen, (0, Some((4, 3))));
+    (slot, low, high)
+}
+
+#[test]
+fn a_bin_moves_into_no_other_slots(rt: HostRuntime) {
+    let mut slot = with_three_keys(&rt, rt.alloc());
     let mut low: Slot<u64, u64> = Slot::unborn(5, 3);
     let mut high: Slot<u64, u64> = Slot::unborn(5, 19);
     let mut other: Slot<u64, u64> = Slot::unborn(5, 20);
     assert_same(&rt, moved(slot.move_into(&mut high, &mut low)), (2, None));
     assert_same(&rt, moved(slot.move_into(&mut low, &mut other)), (2, None));
     assert_same(&rt, moved(low.move_into(&mut slot, &mut high)), (2, None));
-    assert_same(
-        &rt,
-        moved(slot.move_into(&mut low, &mut high)),
-        (0, Some((4, 3))),
-    );
-    assert_same(
-        &rt,
-        moved(slot.move_into(&mut low, &mut high)),
-        (1, Some((4, 3))),
-    );
+    let seen = moved(slot.move_into(&mut low, &mut high));
+    assert_same(&rt, seen, (0, Some((4, 3))));
+}
+
+#[test]
+fn a_bin_that_has_moved_is_away(rt: HostRuntime) {
+    let (mut slot, mut low, mut high) = halves(&rt, rt.alloc());
+    let seen = moved(slot.move_into(&mut low, &mut high));
+    assert_same(&rt, seen, (1, Some((4, 3))));
     assert_same(&rt, (slot.is_live(), low.is_live()), (false, true));
     assert_same(&rt, find(&slot, 3, 3), Err(Away::Moved));
     assert_same(&rt, put(rt.alloc(), &mut slot, 3, 3, 0), Err(Away::Moved));
     assert_same(&rt, here(slot.wipe()), Err(Away::Moved));
+}
+
+#[test]
+fn a_bin_moves_into_its_halves(rt: HostRuntime) {
+    let (_slot, low, mut high) = halves(&rt, rt.alloc());
     assert_same(&rt, find(&low, 3, 3), Ok(Some((3, 1))));
     assert_same(&rt, find(&low, 35, 35), Ok(Some((35, 3))));
     assert_same(&rt, find(&high, 19, 19), Ok(Some((19, 2))));
-    assert_same(
-        &rt,
-        put(rt.alloc(), &mut high, 19, 19, 0),
-        Ok((Some(19), false)),
-    );
+    let seen = put(rt.alloc(), &mut high, 19, 19, 0);
+    assert_same(&rt, seen, Ok((Some(19), false)));
     assert_same(&rt, find(&high, 19, 19), Ok(Some((0, 4))));
     assert_same(&rt, next_after(&low, None), Ok(Some((3, 1))));
 }
