@@ -42,11 +42,21 @@ use std::marker::Model;
 /// map.insert(key, value)?;
 /// Ok(map)
 /// ```
-#[derive(Drop)]
 pub struct SeqMap<K: Ord, V, S: KeyHasher<K> = DefaultHashBuilder, A: Allocator = Global> {
     pub(crate) table: Table<K, V, A>,
     len: usize,
     pub(crate) hasher: S,
+}
+
+// By hand and not derived: so a function that owns a map calls this, and is not proved to drop each part of the map.
+impl<K: Ord + Drop, V: Drop, S: KeyHasher<K> + Drop, A: Allocator> Drop for SeqMap<K, V, S, A> {
+    fn drop(self) {
+        let SeqMap {
+            table: _table,
+            len: _,
+            hasher: _hasher,
+        } = self;
+    }
 }
 
 impl<K: Ord, V, S: KeyHasher<K>, A: Allocator> Model for SeqMap<K, V, S, A> {

@@ -34,11 +34,21 @@ use std::sync::{Arc, Wait};
 /// ```
 /// HashMap::new(alloc).with_processors(processors)
 /// ```
-#[derive(Drop)]
 pub struct HashMap<K: Ord, V, S: KeyHasher<K> = DefaultHashBuilder, A: Allocator = Global> {
     pub(crate) locks: Locks<K, V, A>,
     pub(crate) hasher: S,
     pub(crate) processors: usize,
+}
+
+// By hand and not derived: so a function that owns a map calls this, and is not proved to drop each part of the map.
+impl<K: Ord + Drop, V: Drop, S: KeyHasher<K> + Drop, A: Allocator> Drop for HashMap<K, V, S, A> {
+    fn drop(self) {
+        let HashMap {
+            locks: _locks,
+            hasher: _hasher,
+            processors: _,
+        } = self;
+    }
 }
 
 impl<K: Ord, V, S: KeyHasher<K>, A: Allocator> Model for HashMap<K, V, S, A> {
@@ -101,6 +111,18 @@ impl<K: Ord + Drop, V: Drop, S: KeyHasher<K>, A: Allocator> HashMap<K, V, S, A> 
         }
     }
 
+    // Takes the map apart.
+    pub(crate) fn into_parts(self) -> (Locks<K, V, A>, S)
+        ensures { result.1 ≡ self.hasher }
+    {
+        let HashMap {
+            locks,
+            hasher,
+            processors: _,
+        } = self;
+        (locks, hasher)
+    }
+
     /// Sets the number of threads among which a growth is divided; `0` means 1. The greater it is, the fewer bins a helping thread claims
     /// at once.
     ///
@@ -108,7 +130,7 @@ impl<K: Ord + Drop, V: Drop, S: KeyHasher<K>, A: Allocator> HashMap<K, V, S, A> 
     pub fn with_processors(self, processors: usize) -> Self
         ensures { result ≡ record { hasher = self.hasher; processors = processors } }
     {
-        let HashMap { locks, hasher, .. } = self;
+        let (locks, hasher) = self.into_parts();
         HashMap {
             locks,
             hasher,

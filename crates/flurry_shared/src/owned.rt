@@ -59,7 +59,7 @@ impl<K: Ord + Drop, V: Drop, S: KeyHasher<K>, A: Allocator + Copy> HashMap<K, V,
         ensures { IfOk result (λ m. m.hasher ≡ self.hasher) }
     {
         let pairs = self.len(rt);
-        let HashMap { locks, hasher, .. } = self;
+        let (locks, hasher) = self.into_parts();
         collect(&LockField::new(rt, &locks), pairs, hasher)
     }
 

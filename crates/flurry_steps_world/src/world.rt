@@ -62,7 +62,6 @@ pub enum Step<K, V, F> {
 /// }
 /// Ok(world.trace().len())
 /// ```
-#[derive(Drop)]
 pub struct World<
     'k,
     K: Ord + Copy,
@@ -77,6 +76,27 @@ pub struct World<
     parts: Parts<K, V, A>,
     party_records: Vec<PartyRecord<'k, K, V, F, A>, A>,
     trace: Vec<Label<K, V, F>, A>,
+}
+
+// By hand and not derived: so a function that owns a world calls this, and is not proved to drop each part of the world.
+impl<
+    'k,
+    K: Ord + Copy + Drop,
+    V: Copy + Drop,
+    F: ComputeFn<K, V> + Copy,
+    S: KeyHasher<K> + Drop,
+    A: Allocator + Copy,
+> Drop for World<'k, K, V, F, S, A> {
+    fn drop(self) {
+        let World {
+            hasher: _hasher,
+            processors: _,
+            first: _,
+            parts: _parts,
+            party_records: _party_records,
+            trace: _trace,
+        } = self;
+    }
 }
 
 impl<
