@@ -29,6 +29,11 @@ enum Call {
     Relations,
 }
 
+// Returns whether a call succeeded. What it returned is dropped here, since each drop in the body of the calls would make its proof longer.
+fn succeeded<T: Drop>(answer: Result<T, AllocError>) -> bool {
+    answer.is_ok()
+}
+
 // Makes the call, of a set or of a list, and returns whether it succeeded.
 fn is_done<A: Allocator + Copy, R: Wait>(
     rt: &R,
@@ -37,13 +42,13 @@ fn is_done<A: Allocator + Copy, R: Wait>(
     call: Call,
 ) -> bool {
     match call {
-        Call::Get => set.get(rt, &1).is_ok(),
-        Call::Insert => set.insert(rt, 10).is_ok(),
-        Call::Reserve => set.reserve(rt, 100).is_ok(),
-        Call::Extend => set.extend(rt, list).is_ok(),
-        Call::FromList => HashSet::from_list(rt, list, LowHashBuilder).is_ok(),
-        Call::TryClone => set.try_clone(rt).is_ok(),
-        Call::Retain => set.retain(rt, |element| *element < 2).is_ok(),
+        Call::Get => succeeded(set.get(rt, &1)),
+        Call::Insert => succeeded(set.insert(rt, 10)),
+        Call::Reserve => succeeded(set.reserve(rt, 100)),
+        Call::Extend => succeeded(set.extend(rt, list)),
+        Call::FromList => succeeded(HashSet::from_list(rt, list, LowHashBuilder)),
+        Call::TryClone => succeeded(set.try_clone(rt)),
+        Call::Retain => succeeded(set.retain(rt, |element| *element < 2)),
         Call::Relations => are_related(rt, set),
     }
 }

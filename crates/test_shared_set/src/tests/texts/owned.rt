@@ -108,17 +108,23 @@ fn changes_and_removals_by_text(rt: HostRuntime) {
     removals(&rt, &mut map);
 }
 
+// Looks in a map for texts, while all requests of its memory fail.
+fn take_no_memory<A: Allocator + Copy>(
+    rt: &impl Abort,
+    memory: &MeteredAlloc<Global>,
+    map: &mut SeqMap<String, u64, DefaultHashBuilder, A>,
+) {
+    memory.refuse_from(0);
+    assert_same(rt, found(rt, map, "ab"), Some(2));
+    assert_same(rt, found(rt, map, "abc"), None);
+    let removed = map.remove("ab").map(|value| *value);
+    assert_same(rt, (removed, memory.requests()), (Some(2), 0))
+}
+
 #[test]
 fn look_ups_by_text_take_no_memory(rt: HostRuntime) {
-    let memory: &'static MeteredAlloc<Global> = MeteredAlloc::leak(rt.alloc()).expect(
-        &rt,
-        "memory for the allocator",
-    );
-    let mut map: SeqMap<String, u64, DefaultHashBuilder, _> = SeqMap::new(memory);
+    let memory = MeteredAlloc::leak(rt.alloc()).expect(&rt, "memory for the allocator");
+    let mut map = SeqMap::new(memory);
     fill(&rt, rt.alloc(), &mut map);
-    memory.refuse_from(0);
-    assert_same(&rt, found(&rt, &map, "ab"), Some(2));
-    assert_same(&rt, found(&rt, &map, "abc"), None);
-    let removed = map.remove("ab").map(|value| *value);
-    assert_same(&rt, (removed, memory.requests()), (Some(2), 0));
+    take_no_memory(&rt, memory, &mut map)
 }

@@ -2,7 +2,7 @@
 
 use super::{ABSENT, PRESENT, assert_same, string_of};
 use flurry_seq_set::SeqSet;
-use flurry_shared_set::HashSet;
+use flurry_shared_set::{HashSet, HashSetRef};
 use std::alloc::Global;
 use std::process::Abort;
 use std::sync::{Arc, Wait};
@@ -21,23 +21,30 @@ fn texts_of(rt: &impl Abort, alloc: Global) -> SeqSet<String> {
     set
 }
 
+// Looks for each text in an owned set.
+fn look_in_owned(rt: &impl Abort, set: &SeqSet<String>) {
+    for text in PRESENT {
+        let length = set.get(text).map(|text| text.len());
+        assert_same(rt, (set.contains(text), length), (true, Some(text.len())));
+    }
+    for text in ABSENT {
+        let is_found = set.get(text).is_some();
+        assert_same(rt, (set.contains(text), is_found), (false, false));
+    }
+}
+
+// Removes two of the texts from an owned set.
+fn remove_from_owned(rt: &impl Abort, set: &mut SeqSet<String>) {
+    assert_same(rt, (set.remove("ab"), set.remove("ab")), (true, false));
+    assert_same(rt, length_of(set.take("é")), Some(2));
+    assert_same(rt, set.len(), 4)
+}
+
 #[test]
 fn look_ups_in_an_owned_set(rt: HostRuntime) {
     let mut set = texts_of(&rt, rt.alloc());
-    for text in PRESENT {
-        assert_same(&rt, set.contains(text), true);
-        assert_same(&rt, set.get(text).map(|text| text.len()), Some(text.len()));
-    }
-    for text in ABSENT {
-        assert_same(
-            &rt,
-            (set.contains(text), set.get(text).is_some()),
-            (false, false),
-        );
-    }
-    assert_same(&rt, (set.remove("ab"), set.remove("ab")), (true, false));
-    assert_same(&rt, length_of(set.take("é")), Some(2));
-    assert_same(&rt, set.len(), 4);
+    look_in_owned(&rt, &set);
+    remove_from_owned(&rt, &mut set)
 }
 
 // Looks for each text in a shared set.
@@ -52,23 +59,34 @@ fn look_in<R: Abort + Wait>(rt: &R, set: &HashSet<String>) {
     }
 }
 
+// Inserts the texts that are to be present.
+fn insert_texts<R: Abort + Wait>(rt: &R, alloc: Global, set: &HashSet<String>) {
+    for text in PRESENT {
+        set.insert(rt, string_of(rt, alloc, text))
+            .expect(rt, "memory");
+    }
+}
+
+// Removes two of the texts from a shared set.
+fn remove_from<R: Abort + Wait>(rt: &R, set: &HashSet<String>) {
+    assert_same(rt, set.remove(rt, "ab"), true);
+    assert_same(rt, length_of(set.take(rt, "é")), Some(2))
+}
+
+// Removes two others by its view.
+fn remove_by<R: Abort + Wait>(rt: &R, view: &HashSetRef<'_, R, String>) {
+    assert_same(rt, view.contains("ab"), false);
+    let seen = view.get("a").expect(rt, "memory");
+    assert_same(rt, (length_of(seen), view.remove("a")), (Some(1), true));
+    assert_same(rt, length_of(view.take("b")), Some(1));
+    assert_same(rt, view.len(), 2)
+}
+
 #[test]
 fn look_ups_in_a_shared_set(rt: HostRuntime) {
-    let set: HashSet<String> = HashSet::new(rt.alloc());
-    for text in PRESENT {
-        set.insert(&rt, string_of(&rt, rt.alloc(), text))
-            .expect(&rt, "memory");
-    }
+    let set = HashSet::new(rt.alloc());
+    insert_texts(&rt, rt.alloc(), &set);
     look_in(&rt, &set);
-    let view = set.pin(&rt);
-    assert_same(
-        &rt,
-        (set.remove(&rt, "ab"), view.contains("ab")),
-        (true, false),
-    );
-    assert_same(&rt, length_of(set.take(&rt, "é")), Some(2));
-    let seen = view.get("a").expect(&rt, "memory");
-    assert_same(&rt, (length_of(seen), view.remove("a")), (Some(1), true));
-    assert_same(&rt, length_of(view.take("b")), Some(1));
-    assert_same(&rt, set.len(&rt), 2);
+    remove_from(&rt, &set);
+    remove_by(&rt, &set.pin(&rt))
 }

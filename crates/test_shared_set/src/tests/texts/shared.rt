@@ -5,7 +5,7 @@ use flurry_base::hash::{DefaultHashBuilder, KeyHasher, ZeroHashBuilder};
 use flurry_base::query::HashedQuery;
 use flurry_shared::HashMap;
 use metered_alloc::MeteredAlloc;
-use std::alloc::Global;
+use std::alloc::{Allocator, Global};
 use std::process::Abort;
 use std::sync::Wait;
 
@@ -117,19 +117,25 @@ fn changes_and_removals_by_text(rt: HostRuntime) {
     removals(&rt, &map);
 }
 
+// Calls a map by texts, after an insertion of one, while all requests of its memory fail.
+fn take_no_memory<A: Allocator + Copy, R: Abort + Wait>(
+    rt: &R,
+    alloc: Global,
+    memory: &MeteredAlloc<Global>,
+    map: &HashMap<String, u64, DefaultHashBuilder, A>,
+) {
+    let inserted = map.insert(rt, string_of(rt, alloc, "ab"), 2);
+    assert_same(rt, inserted.is_ok(), true);
+    memory.refuse_from(0);
+    let found = map.get(rt, "ab").expect(rt, "a clone of an `Arc`");
+    assert_same(rt, found.map(|value| *value), Some(2));
+    assert_same(rt, map.contains_key(rt, "abc"), false);
+    let removed = map.remove(rt, "ab").map(|value| *value);
+    assert_same(rt, (removed, memory.requests()), (Some(2), 0))
+}
+
 #[test]
 fn calls_by_text_take_no_memory(rt: HostRuntime) {
-    let memory: &'static MeteredAlloc<Global> = MeteredAlloc::leak(rt.alloc()).expect(
-        &rt,
-        "memory for the allocator",
-    );
-    let map: HashMap<String, u64, DefaultHashBuilder, _> = HashMap::new(memory);
-    let inserted = map.insert(&rt, string_of(&rt, rt.alloc(), "ab"), 2);
-    assert_same(&rt, inserted.is_ok(), true);
-    memory.refuse_from(0);
-    let found = map.get(&rt, "ab").expect(&rt, "a clone of an `Arc`");
-    assert_same(&rt, found.map(|value| *value), Some(2));
-    assert_same(&rt, map.contains_key(&rt, "abc"), false);
-    let removed = map.remove(&rt, "ab").map(|value| *value);
-    assert_same(&rt, (removed, memory.requests()), (Some(2), 0));
+    let memory = MeteredAlloc::leak(rt.alloc()).expect(&rt, "memory for the allocator");
+    take_no_memory(&rt, rt.alloc(), memory, &HashMap::new(memory))
 }

@@ -52,19 +52,28 @@ fn look_beside_insertions<R: Abort + Threads + Wait + Sync>(
     });
 }
 
+// Inserts the texts that are there throughout.
+fn insert_texts<R: Abort + Wait>(rt: &R, alloc: Global, map: &HashMap<String, u64>) {
+    for text in PRESENT {
+        map.insert(rt, string_of(rt, alloc, text), 0)
+            .expect(rt, "memory");
+    }
+}
+
+// Asserts that no text was missed, and that all are there.
+fn has_all<R: Abort + Wait>(rt: &R, shared: &Shared) {
+    assert_same(rt, shared.missed.load(Ordering::SeqCst), 0);
+    assert_same(rt, shared.map.len(rt), 506);
+    assert_same(rt, shared.map.contains_key(rt, "499"), true)
+}
+
 #[test]
 fn texts_are_found_while_the_table_grows(rt: HostRuntime) {
-    let map: HashMap<String, u64> = HashMap::new(rt.alloc());
-    for text in PRESENT {
-        map.insert(&rt, string_of(&rt, rt.alloc(), text), 0)
-            .expect(&rt, "memory");
-    }
     let shared = Shared {
-        map,
+        map: HashMap::new(rt.alloc()),
         missed: AtomicU64::new(0),
     };
+    insert_texts(&rt, rt.alloc(), &shared.map);
     look_beside_insertions(&rt, rt.alloc(), &shared);
-    assert_same(&rt, shared.missed.load(Ordering::SeqCst), 0);
-    assert_same(&rt, shared.map.len(&rt), 506);
-    assert_same(&rt, shared.map.contains_key(&rt, "499"), true);
+    has_all(&rt, &shared)
 }
