@@ -9,7 +9,7 @@ use flurry_base::hash::ZeroHashBuilder;
 use flurry_shared::HashMap;
 use flurry_shared::iter::Iter;
 use flurry_shared_set::HashSet;
-use std::alloc::{AllocError, Allocator, Global};
+use std::alloc::{Allocator, Global};
 use std::cmp::Ordering;
 use std::process::Abort;
 use std::sync::Wait;
@@ -38,13 +38,16 @@ fn set_flag(flag: &AtomicBool) {
 }
 
 impl Meeting {
-    fn new() -> Self {
-        Meeting {
+    // Returns a meeting that lives until the end of the process, so that the guests name no lifetime: what owns a type with one is proved to
+    // drop each part of it.
+    fn leak(rt: &impl Abort, alloc: Global) -> &'static Meeting {
+        let meeting = Meeting {
             drops: AtomicBool::new(false),
             is_answered: AtomicBool::new(false),
             is_missed: AtomicBool::new(false),
             is_over: AtomicBool::new(false),
-        }
+        };
+        Box::leak(Box::new(alloc, meeting).expect(rt, "memory"))
     }
 
     // Waits until the other thread has done its calls.
@@ -81,13 +84,13 @@ impl Meeting {
 
 // A number, as a key or as a value. Its drop waits if it has a meeting.
 #[derive_where(PartialEq, Eq)]
-struct Guest<'m> {
+struct Guest {
     number: u64,
     #[derive_where(skip(EqHashOrd))]
-    meeting: Option<&'m Meeting>,
+    meeting: Option<&'static Meeting>,
 }
 
-impl<'m> Guest<'m> {
+impl Guest {
     fn new(number: u64) -> Self {
         Guest {
             number,
@@ -96,7 +99,7 @@ impl<'m> Guest<'m> {
     }
 }
 
-impl<'m> Drop for Guest<'m> {
+impl Drop for Guest {
     fn drop(self) {
         let Guest { number: _, meeting } = self;
         if let Some(meeting) = meeting {
@@ -105,7 +108,7 @@ impl<'m> Drop for Guest<'m> {
     }
 }
 
-impl<'m> Ord for Guest<'m> {
+impl Ord for Guest {
     ghost cmp = { on (λ k. k.number) nat_cmp };
 
     ghost total = { Prim.search (comparing, rules) };
@@ -114,23 +117,23 @@ impl<'m> Ord for Guest<'m> {
 
     ghost matches_eq = { Prim.search (comparing, rules) };
 
-    fn cmp(&self, other: &Guest<'m>) -> Ordering {
+    fn cmp(&self, other: &Guest) -> Ordering {
         self.number.cmp(&other.number)
     }
 }
 
-impl<'m> PartialOrd for Guest<'m> {
+impl PartialOrd for Guest {
     ghost partial_cmp = { as_partial_cmp (on (λ k. k.number) nat_cmp) };
 
     ghost laws = { partial_order_from_own_ties (Prim.search (comparing, rules)) (Prim.search (comparing, rules)) };
 
-    fn partial_cmp(&self, other: &Guest<'m>) -> Option<Ordering> {
+    fn partial_cmp(&self, other: &Guest) -> Option<Ordering> {
         Some(self.cmp(other))
     }
 }
 
 // A map that has one bin.
-type Guests<'m, A> = HashMap<Guest<'m>, Guest<'m>, ZeroHashBuilder, A>;
+type Guests<A> = HashMap<Guest, Guest, ZeroHashBuilder, A>;
 
 // What is done while a key or a value has a meeting.
 #[derive(Clone, Copy, Debug, PartialEq, Eq)]
@@ -158,12 +161,12 @@ enum Deed {
 enum Who {
     Key,
     Value,
+    // a key, a value or a function's capture that the call is given
     PassedIn,
-    Function,
 }
 
 // Returns the guest of a number, with the meeting if it is for him.
-fn guest_of<'m>(number: u64, is_asked: bool, meeting: &'m Meeting) -> Guest<'m> {
+fn guest_of(number: u64, is_asked: bool, meeting: &'static Meeting) -> Guest {
     Guest {
         number,
         meeting: if is_asked { Some(meeting) } else { None },
@@ -171,156 +174,122 @@ fn guest_of<'m>(number: u64, is_asked: bool, meeting: &'m Meeting) -> Guest<'m> 
 }
 
 // Replaces the value at the key 1.
-fn replaces<'m, A: Allocator + Copy, R: Wait>(
-    rt: &R,
-    map: &Guests<'m, A>,
-) -> Result<(), AllocError> {
-    drop(map.compute_if_present(rt, &Guest::new(1), |_, _| Some(Guest::new(3)))?);
-    Ok(())
+fn replaces<A: Allocator + Copy, R: Wait>(rt: &R, map: &Guests<A>) {
+    drop(map.compute_if_present(rt, &Guest::new(1), |_, _| Some(Guest::new(3))));
 }
 
 // Removes the pair at the key 1 by a computation.
-fn erases<'m, A: Allocator + Copy, R: Wait>(rt: &R, map: &Guests<'m, A>) -> Result<(), AllocError> {
-    drop(map.compute_if_present(rt, &Guest::new(1), |_, _| None)?);
-    Ok(())
-}
-
-// Changes, removes or keeps the pair at the key 1. The guest that is passed in is the key 1, or the value that is not stored.
-fn alters<'m, A: Allocator + Copy, R: Wait>(
-    rt: &R,
-    map: &Guests<'m, A>,
-    deed: Deed,
-    one: Guest<'m>,
-) -> Result<(), AllocError> {
-    match deed {
-        Deed::Compute => drop(map.compute(rt, one, |_, _| Some(Guest::new(3)))?),
-        Deed::Merge => drop(map.merge(rt, one, Guest::new(3), |_, new| Some(new))?),
-        Deed::Update => drop(map.update(rt, &one, |_, _| Guest::new(3))?),
-        Deed::RemoveIf => drop(map.remove_if(rt, &one, |_, _| true)),
-        Deed::ReplaceNothing => {
-            drop(map.replace_if(rt, &Guest::new(1), |_, _| false, one)?);
-        }
-        _ => drop(map.replace_if(rt, &one, |_, _| true, Guest::new(3))?),
-    }
-    Ok(())
+fn erases<A: Allocator + Copy, R: Wait>(rt: &R, map: &Guests<A>) {
+    drop(map.compute_if_present(rt, &Guest::new(1), |_, _| None));
 }
 
 // Computes nothing at an absent key, by a function that owns a guest.
-fn computes_nowhere<'m, A: Allocator + Copy, R: Wait>(
-    rt: &R,
-    map: &Guests<'m, A>,
-    kept: Guest<'m>,
-) -> Result<(), AllocError> {
-    drop(map.compute_if_present(rt, &Guest::new(3), move |_, _| Some(kept))?);
-    Ok(())
+fn computes_nowhere<A: Allocator + Copy, R: Wait>(rt: &R, map: &Guests<A>, kept: Guest) {
+    drop(map.compute_if_present(rt, &Guest::new(3), move |_, _| Some(kept)));
 }
 
-// Walks past the first pair, which is removed meanwhile. It borrows the iterator, because a body that owns it has a proof of its drop at
-// each way out.
-fn reads_on<'m, A: Allocator + Copy, R: Wait>(
-    rt: &R,
-    map: &Guests<'m, A>,
-    pairs: &mut Iter<'_, R, Guest<'m>, Guest<'m>, A>,
-) -> Result<(), AllocError> {
-    drop(pairs.next()?);
+// Changes the value at the key 1, which is passed in.
+fn computes<A: Allocator + Copy, R: Wait>(rt: &R, map: &Guests<A>, one: Guest) {
+    drop(map.compute(rt, one, |_, _| Some(Guest::new(3))));
+}
+
+// Changes the value at the key 1, which is passed in, by one that is passed in.
+fn merges<A: Allocator + Copy, R: Wait>(rt: &R, map: &Guests<A>, one: Guest) {
+    drop(map.merge(rt, one, Guest::new(3), |_, new| Some(new)));
+}
+
+fn updates<A: Allocator + Copy, R: Wait>(rt: &R, map: &Guests<A>) {
+    drop(map.update(rt, &Guest::new(1), |_, _| Guest::new(3)));
+}
+
+fn removes_if<A: Allocator + Copy, R: Wait>(rt: &R, map: &Guests<A>) {
+    drop(map.remove_if(rt, &Guest::new(1), |_, _| true));
+}
+
+// Replaces the value at the key 1, or drops the new one.
+fn replaces_if<A: Allocator + Copy, R: Wait>(rt: &R, map: &Guests<A>, passes: bool, new: Guest) {
+    drop(map.replace_if(rt, &Guest::new(1), move |_, _| passes, new));
+}
+
+// Inserts the key 1, which is present.
+fn inserts<A: Allocator + Copy, R: Wait>(rt: &R, map: &Guests<A>, one: Guest) {
+    drop(map.insert(rt, one, Guest::new(3)));
+}
+
+fn inserts_once<A: Allocator + Copy, R: Wait>(rt: &R, map: &Guests<A>, one: Guest) {
+    drop(map.try_insert(rt, one, Guest::new(3)));
+}
+
+fn removes<A: Allocator + Copy, R: Wait>(rt: &R, map: &Guests<A>) {
     drop(map.remove(rt, &Guest::new(1)));
-    drop(pairs.next()?);
-    Ok(())
 }
 
-fn reads<'m, A: Allocator + Copy, R: Wait>(rt: &R, map: &Guests<'m, A>) -> Result<(), AllocError> {
+fn retains_none<A: Allocator + Copy, R: Wait>(rt: &R, map: &Guests<A>) {
+    drop(map.retain(rt, |_, _| false));
+}
+
+fn retains_none_by_force<A: Allocator + Copy, R: Wait>(rt: &R, map: &Guests<A>) {
+    drop(map.retain_force(rt, |_, _| false));
+}
+
+// Reads the next pair, and drops it. It borrows the iterator, because a body that owns it has a proof of its drop at each way out.
+fn reads_one<A: Allocator + Copy, R: Wait>(pairs: &mut Iter<'_, R, Guest, Guest, A>) {
+    drop(pairs.next());
+}
+
+// Walks past the first pair, which is removed meanwhile.
+fn reads<A: Allocator + Copy, R: Wait>(rt: &R, map: &Guests<A>) {
     let mut pairs = map.iter(rt);
-    let seen = reads_on(rt, map, &mut pairs);
-    drop(pairs);
-    seen
+    reads_one(&mut pairs);
+    removes(rt, map);
+    reads_one(&mut pairs);
+    drop(pairs)
 }
 
-// Visits all pairs.
-fn sweeps<'m, A: Allocator + Copy, R: Wait>(
-    rt: &R,
-    map: &Guests<'m, A>,
-    deed: Deed,
-) -> Result<(), AllocError> {
+// Does the deed in a map of the keys 1 and 2, or in a new one. A deed that is refused meets nobody, and its row fails.
+fn does<A: Allocator + Copy, R: Wait>(rt: &R, map: &Guests<A>, deed: Deed, passed: Guest) {
     match deed {
-        Deed::Clear => {
-            map.clear(rt);
-            Ok(())
-        }
-        Deed::Retain => map.retain(rt, |_, _| false),
-        Deed::RetainForce => map.retain_force(rt, |_, _| false),
-        _ => reads(rt, map),
-    }
-}
-
-// Does the deed in a map of the keys 1 and 2, or in a new one.
-fn does<'m, A: Allocator + Copy, R: Wait>(
-    rt: &R,
-    map: &Guests<'m, A>,
-    deed: Deed,
-    who: Who,
-    meeting: &'m Meeting,
-) -> Result<(), AllocError> {
-    match deed {
+        Deed::Clear => map.clear(rt),
         Deed::Replace => replaces(rt, map),
         Deed::Erase => erases(rt, map),
-        Deed::Compute
-        | Deed::Merge
-        | Deed::Update
-        | Deed::RemoveIf
-        | Deed::ReplaceIf
-        | Deed::ReplaceNothing => {
-            alters(
-                rt,
-                map,
-                deed,
-                guest_of(1, matches!(who, Who::PassedIn), meeting),
-            )
-        }
-        Deed::ComputeNowhere => {
-            computes_nowhere(rt, map, guest_of(3, matches!(who, Who::Function), meeting))
-        }
-        Deed::Insert => {
-            let key = guest_of(1, matches!(who, Who::PassedIn), meeting);
-            drop(map.insert(rt, key, Guest::new(3))?);
-            Ok(())
-        }
-        Deed::TryInsert => {
-            let key = guest_of(1, matches!(who, Who::PassedIn), meeting);
-            drop(map.try_insert(rt, key, Guest::new(3))?);
-            Ok(())
-        }
-        Deed::Remove => {
-            drop(map.remove(rt, &Guest::new(1)));
-            Ok(())
-        }
-        Deed::Clear | Deed::Retain | Deed::RetainForce | Deed::Read => sweeps(rt, map, deed),
+        Deed::Compute => computes(rt, map, passed),
+        Deed::Merge => merges(rt, map, passed),
+        Deed::Update => updates(rt, map),
+        Deed::RemoveIf => removes_if(rt, map),
+        Deed::ReplaceIf => replaces_if(rt, map, true, passed),
+        Deed::ReplaceNothing => replaces_if(rt, map, false, passed),
+        Deed::ComputeNowhere => computes_nowhere(rt, map, passed),
+        Deed::Remove => removes(rt, map),
+        Deed::Insert => inserts(rt, map, passed),
+        Deed::TryInsert => inserts_once(rt, map, passed),
+        Deed::Retain => retains_none(rt, map),
+        Deed::RetainForce => retains_none_by_force(rt, map),
+        Deed::Read => reads(rt, map),
     }
 }
 
 // Does calls in the bin once something is dropped.
-fn answers<'m, A: Allocator + Copy, R: Wait>(rt: &R, map: &Guests<'m, A>, meeting: &Meeting) {
+fn answers<A: Allocator + Copy, R: Wait>(rt: &R, map: &Guests<A>, meeting: &Meeting) {
     if !meeting.sees_a_drop() {
         return;
     }
-    let two = Guest::new(2);
-    let absent = Guest::new(5);
-    map.contains_key(rt, &two);
-    drop(map.remove(rt, &absent));
+    map.contains_key(rt, &Guest::new(2));
+    drop(map.remove(rt, &Guest::new(5)));
     set_flag(&meeting.is_answered);
 }
 
 // Does the deed beside the calls of another thread.
-fn in_two_threads<'m, A: Allocator + Copy + Send + Sync, R: Threads + Wait + Sync>(
+fn in_two_threads<A: Allocator + Copy + Send + Sync, R: Threads + Wait + Sync>(
     rt: &R,
-    map: &Guests<'m, A>,
+    map: &Guests<A>,
     deed: Deed,
     who: Who,
-    meeting: &'m Meeting,
+    meeting: &'static Meeting,
 ) {
     thread::join(
         rt,
         move || {
-            let _ = does(rt, map, deed, who, meeting);
+            does(rt, map, deed, guest_of(1, who == Who::PassedIn, meeting));
             set_flag(&meeting.is_over);
         },
         move || answers(rt, map, meeting),
@@ -328,31 +297,31 @@ fn in_two_threads<'m, A: Allocator + Copy + Send + Sync, R: Threads + Wait + Syn
 }
 
 // Inserts the keys 1 and 2.
-fn fill<'m, A: Allocator + Copy, R: Wait>(
+fn fill<A: Allocator + Copy, R: Wait>(
     rt: &R,
-    map: &Guests<'m, A>,
+    map: &Guests<A>,
     who: Who,
-    meeting: &'m Meeting,
+    meeting: &'static Meeting,
 ) {
-    let key = guest_of(1, matches!(who, Who::Key), meeting);
-    let value = guest_of(1, matches!(who, Who::Value), meeting);
-    let _ = map.insert(rt, key, value);
-    let _ = map.insert(rt, Guest::new(2), Guest::new(2));
+    let key = guest_of(1, who == Who::Key, meeting);
+    let value = guest_of(1, who == Who::Value, meeting);
+    drop(map.insert(rt, key, value));
+    drop(map.insert(rt, Guest::new(2), Guest::new(2)));
 }
 
-fn meets<R: Threads + Wait + Sync>(
+fn meets<R: Abort + Threads + Wait + Sync>(
     rt: &R,
     alloc: Global,
     deed: Deed,
     who: Who,
     is_new: bool,
 ) -> bool {
-    let meeting = Meeting::new();
-    let map: Guests<'_, Global> = HashMap::with_hasher(alloc, ZeroHashBuilder);
+    let meeting = Meeting::leak(rt, alloc);
+    let map: Guests<Global> = HashMap::with_hasher(alloc, ZeroHashBuilder);
     if !is_new {
-        fill(rt, &map, who, &meeting);
+        fill(rt, &map, who, meeting);
     }
-    in_two_threads(rt, &map, deed, who, &meeting);
+    in_two_threads(rt, &map, deed, who, meeting);
     meeting.has_met()
 }
 
@@ -374,7 +343,7 @@ fn calls_of_a_map(rt: HostRuntime) {
         (Deed::RemoveIf, Who::Value),
         (Deed::ReplaceIf, Who::Value),
         (Deed::ReplaceNothing, Who::PassedIn),
-        (Deed::ComputeNowhere, Who::Function),
+        (Deed::ComputeNowhere, Who::PassedIn),
         (Deed::Remove, Who::Key),
         (Deed::Insert, Who::PassedIn),
         (Deed::TryInsert, Who::PassedIn),
@@ -392,7 +361,7 @@ fn calls_of_a_map(rt: HostRuntime) {
 // A map without a table decides at its control.
 #[test]
 fn a_function_that_a_new_map_drops(rt: HostRuntime) {
-    let met = meets(&rt, rt.alloc(), Deed::ComputeNowhere, Who::Function, true);
+    let met = meets(&rt, rt.alloc(), Deed::ComputeNowhere, Who::PassedIn, true);
     assert_same(&rt, met, true);
 }
 
@@ -406,29 +375,30 @@ enum SetDeed {
 }
 
 // Does the deed. An element that it inserts has a meeting.
-fn does_in_set<'m, A: Allocator + Copy, R: Wait>(
+fn does_in_set<A: Allocator + Copy, R: Wait>(
     rt: &R,
-    set: &HashSet<Guest<'m>, ZeroHashBuilder, A>,
+    set: &HashSet<Guest, ZeroHashBuilder, A>,
     deed: SetDeed,
-    meeting: &'m Meeting,
-) -> Result<(), AllocError> {
+    meeting: &'static Meeting,
+) {
     match deed {
         SetDeed::Clear => set.clear(rt),
         SetDeed::Remove => {
             set.remove(rt, &Guest::new(1));
         }
         SetDeed::Insert => {
-            set.insert(rt, guest_of(1, true, meeting))?;
+            drop(set.insert(rt, guest_of(1, true, meeting)));
         }
-        SetDeed::Retain => set.retain(rt, |_| false)?,
+        SetDeed::Retain => {
+            drop(set.retain(rt, |_| false));
+        }
     }
-    Ok(())
 }
 
 // Looks an element of the bin up once another one is dropped.
-fn answers_in_set<'m, A: Allocator + Copy, R: Wait>(
+fn answers_in_set<A: Allocator + Copy, R: Wait>(
     rt: &R,
-    set: &HashSet<Guest<'m>, ZeroHashBuilder, A>,
+    set: &HashSet<Guest, ZeroHashBuilder, A>,
     meeting: &Meeting,
 ) {
     if meeting.sees_a_drop() {
@@ -439,29 +409,28 @@ fn answers_in_set<'m, A: Allocator + Copy, R: Wait>(
 }
 
 // Does the deed beside the calls of another thread.
-fn in_two_threads_in_set<'m, A: Allocator + Copy + Send + Sync, R: Threads + Wait + Sync>(
+fn in_two_threads_in_set<A: Allocator + Copy + Send + Sync, R: Threads + Wait + Sync>(
     rt: &R,
-    set: &HashSet<Guest<'m>, ZeroHashBuilder, A>,
+    set: &HashSet<Guest, ZeroHashBuilder, A>,
     deed: SetDeed,
-    meeting: &'m Meeting,
+    meeting: &'static Meeting,
 ) {
     thread::join(
         rt,
         move || {
-            let _ = does_in_set(rt, set, deed, meeting);
+            does_in_set(rt, set, deed, meeting);
             set_flag(&meeting.is_over);
         },
         move || answers_in_set(rt, set, meeting),
     );
 }
 
-fn meets_in_set<R: Threads + Wait + Sync>(rt: &R, alloc: Global, deed: SetDeed) -> bool {
-    let meeting = Meeting::new();
-    let set: HashSet<Guest<'_>, ZeroHashBuilder> = HashSet::with_hasher(alloc, ZeroHashBuilder);
-    let one = guest_of(1, !matches!(deed, SetDeed::Insert), &meeting);
-    let _ = set.insert(rt, one);
-    let _ = set.insert(rt, Guest::new(2));
-    in_two_threads_in_set(rt, &set, deed, &meeting);
+fn meets_in_set<R: Abort + Threads + Wait + Sync>(rt: &R, alloc: Global, deed: SetDeed) -> bool {
+    let meeting = Meeting::leak(rt, alloc);
+    let set: HashSet<Guest, ZeroHashBuilder> = HashSet::with_hasher(alloc, ZeroHashBuilder);
+    drop(set.insert(rt, guest_of(1, deed != SetDeed::Insert, meeting)));
+    drop(set.insert(rt, Guest::new(2)));
+    in_two_threads_in_set(rt, &set, deed, meeting);
     meeting.has_met()
 }
 
