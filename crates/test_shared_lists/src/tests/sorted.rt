@@ -7,76 +7,80 @@ use flurry_shared::HashMap;
 use flurry_shared_pairs::{map, map_ref, set, set_ref};
 use flurry_shared_set::HashSet;
 use metered_alloc::MeteredAlloc;
-use std::alloc::{AllocError, Allocator, Global};
+use std::alloc::Global;
 use std::process::Abort;
 use std::sync::Wait;
-use std::test::Fail;
+
+type Numbers = HashMap<u64, u64, LowHashBuilder>;
+
+type Elements = HashSet<u64, LowHashBuilder>;
 
 // More requests than any call makes.
 const MAX_REQUESTS: u64 = 100;
 
 // Returns a map of the keys 2, 0 and 1, each with ten times itself as its value.
-fn three_pairs<A: Allocator + Copy, R: Wait>(
-    rt: &R,
-    alloc: A,
-) -> Result<HashMap<u64, u64, LowHashBuilder, A>, AllocError> {
+fn three_pairs<R: Abort + Wait>(rt: &R, alloc: Global) -> Numbers {
     let map = HashMap::with_hasher(alloc, LowHashBuilder);
-    map.insert(rt, 2, 20)?;
-    map.insert(rt, 0, 0)?;
-    map.insert(rt, 1, 10)?;
-    Ok(map)
+    for key in [2u64, 0, 1] {
+        map.insert(rt, key, key.saturating_mul(10))
+            .expect(rt, "memory");
+    }
+    map
 }
 
-fn three_elements<A: Allocator + Copy, R: Wait>(
-    rt: &R,
-    alloc: A,
-) -> Result<HashSet<u64, LowHashBuilder, A>, AllocError> {
+fn three_elements<R: Abort + Wait>(rt: &R, alloc: Global) -> Elements {
     let set = HashSet::with_hasher(alloc, LowHashBuilder);
-    set.insert(rt, 2)?;
-    set.insert(rt, 0)?;
-    set.insert(rt, 1)?;
-    Ok(set)
+    for element in [2u64, 0, 1] {
+        set.insert(rt, element).expect(rt, "memory");
+    }
+    set
+}
+
+fn lists_three_pairs<R: Abort + Wait>(rt: &R, alloc: Global, map: &Numbers) {
+    let wanted = Vec::from_array(alloc, [(0u64, 0u64), (1, 10), (2, 20)]).expect(rt, "memory");
+    let wanted = SortedPairs(wanted);
+    let list = map::to_sorted_pairs(rt, alloc, map).expect(rt, "memory");
+    assert_same(rt, &list, &wanted);
+    let list = map_ref::to_sorted_pairs(alloc, &map.pin(rt)).expect(rt, "memory");
+    assert_same(rt, &list, &wanted)
 }
 
 #[test]
-fn pairs_of_a_map(rt: HostRuntime) -> Result<(), Fail> {
-    let map = three_pairs(&rt, rt.alloc())?;
-    let wanted = SortedPairs(Vec::from_array(rt.alloc(), [(0u64, 0u64), (1, 10), (2, 20)])?);
-    assert_same(&rt, &map::to_sorted_pairs(&rt, rt.alloc(), &map)?, &wanted);
-    assert_same(
-        &rt,
-        &map_ref::to_sorted_pairs(rt.alloc(), &map.pin(&rt))?,
-        &wanted,
-    );
-    Ok(())
+fn pairs_of_a_map(rt: HostRuntime) {
+    lists_three_pairs(&rt, rt.alloc(), &three_pairs(&rt, rt.alloc()))
+}
+
+// Returns how many pairs the list of a map has.
+fn pair_count<R: Abort + Wait>(rt: &R, alloc: Global, map: &Numbers) -> usize {
+    let list = map::to_sorted_pairs(rt, alloc, map).expect(rt, "memory");
+    list.0.len()
 }
 
 #[test]
-fn no_pairs(rt: HostRuntime) -> Result<(), Fail> {
-    let map: HashMap<u64, u64, LowHashBuilder> = HashMap::with_hasher(rt.alloc(), LowHashBuilder);
-    let list = map::to_sorted_pairs(&rt, rt.alloc(), &map)?;
-    assert_same(&rt, list.0.len(), 0);
-    Ok(())
+fn no_pairs(rt: HostRuntime) {
+    let map = HashMap::with_hasher(rt.alloc(), LowHashBuilder);
+    assert_same(&rt, pair_count(&rt, rt.alloc(), &map), 0)
+}
+
+fn lists_three_elements<R: Abort + Wait>(rt: &R, alloc: Global, set: &Elements) {
+    let wanted = Vec::from_array(alloc, [0u64, 1, 2]).expect(rt, "memory");
+    let wanted = SortedItems(wanted);
+    let list = set::to_sorted_items(rt, alloc, set).expect(rt, "memory");
+    assert_same(rt, &list, &wanted);
+    let list = set_ref::to_sorted_items(alloc, &set.pin(rt)).expect(rt, "memory");
+    assert_same(rt, &list, &wanted)
 }
 
 #[test]
-fn elements_of_a_set(rt: HostRuntime) -> Result<(), Fail> {
-    let set = three_elements(&rt, rt.alloc())?;
-    let wanted = SortedItems(Vec::from_array(rt.alloc(), [0u64, 1, 2])?);
-    assert_same(&rt, &set::to_sorted_items(&rt, rt.alloc(), &set)?, &wanted);
-    assert_same(
-        &rt,
-        &set_ref::to_sorted_items(rt.alloc(), &set.pin(&rt))?,
-        &wanted,
-    );
-    Ok(())
+fn elements_of_a_set(rt: HostRuntime) {
+    lists_three_elements(&rt, rt.alloc(), &three_elements(&rt, rt.alloc()))
 }
 
 // Makes the list of a map while the request numbered `k` fails, and returns whether that request was made.
 fn pairs_without(
     rt: &(impl Abort + Wait),
     memory: &MeteredAlloc<Global>,
-    map: &HashMap<u64, u64, LowHashBuilder>,
+    map: &Numbers,
     k: u64,
 ) -> bool {
     memory.refuse_at(k);
@@ -93,7 +97,7 @@ fn pairs_without(
 fn elements_without(
     rt: &(impl Abort + Wait),
     memory: &MeteredAlloc<Global>,
-    set: &HashSet<u64, LowHashBuilder>,
+    set: &Elements,
     k: u64,
 ) -> bool {
     memory.refuse_at(k);
@@ -106,54 +110,78 @@ fn elements_without(
     refused
 }
 
-#[test]
-fn refused_pairs(rt: HostRuntime) -> Result<(), Fail> {
-    let memory = MeteredAlloc::new(rt.alloc());
-    let map = three_pairs(&rt, rt.alloc())?;
+// Returns how many requests the list of a map makes. With each of them refused no list is made, and no block is left.
+fn requests_for_pairs<R: Abort + Wait>(
+    rt: &R,
+    memory: &MeteredAlloc<Global>,
+    map: &Numbers,
+) -> u64 {
     for k in 0..MAX_REQUESTS {
-        let refused = pairs_without(&rt, &memory, &map, k);
-        assert_same(&rt, memory.live_blocks(), 0);
+        let refused = pairs_without(rt, memory, map, k);
+        assert_same(rt, memory.live_blocks(), 0);
         if !refused {
-            assert_same(&rt, k > 0, true);
-            return Ok(());
+            return k;
         }
     }
-    Err(Fail::from("it makes fewer requests"))
+    MAX_REQUESTS
 }
 
 #[test]
-fn refused_elements(rt: HostRuntime) -> Result<(), Fail> {
+fn refused_pairs(rt: HostRuntime) {
     let memory = MeteredAlloc::new(rt.alloc());
-    let set = three_elements(&rt, rt.alloc())?;
+    let requests = requests_for_pairs(&rt, &memory, &three_pairs(&rt, rt.alloc()));
+    assert_same(&rt, (1..MAX_REQUESTS).contains(&requests), true)
+}
+
+// Returns how many requests the list of a set makes. With each of them refused no list is made, and no block is left.
+fn requests_for_elements<R: Abort + Wait>(
+    rt: &R,
+    memory: &MeteredAlloc<Global>,
+    set: &Elements,
+) -> u64 {
     for k in 0..MAX_REQUESTS {
-        let refused = elements_without(&rt, &memory, &set, k);
-        assert_same(&rt, memory.live_blocks(), 0);
+        let refused = elements_without(rt, memory, set, k);
+        assert_same(rt, memory.live_blocks(), 0);
         if !refused {
-            assert_same(&rt, k > 0, true);
-            return Ok(());
+            return k;
         }
     }
-    Err(Fail::from("it makes fewer requests"))
+    MAX_REQUESTS
+}
+
+#[test]
+fn refused_elements(rt: HostRuntime) {
+    let memory = MeteredAlloc::new(rt.alloc());
+    let requests = requests_for_elements(&rt, &memory, &three_elements(&rt, rt.alloc()));
+    assert_same(&rt, (1..MAX_REQUESTS).contains(&requests), true)
+}
+
+fn lists_a_thousand_pairs<R: Abort + Wait>(rt: &R, alloc: Global, map: &Numbers) {
+    for key in 0..1000u64 {
+        map.insert(rt, key, key).expect(rt, "memory");
+    }
+    assert_same(rt, pair_count(rt, alloc, map), 1000)
+}
+
+fn lists_a_thousand_elements<R: Abort + Wait>(rt: &R, alloc: Global, set: &Elements) {
+    for element in 0..1000u64 {
+        set.insert(rt, element).expect(rt, "memory");
+    }
+    let list = set::to_sorted_items(rt, alloc, set).expect(rt, "memory");
+    assert_same(rt, list.0.len(), 1000)
 }
 
 // A list has every pair and every element, and each pair its own value.
 #[test]
-fn a_thousand_of_each(rt: HostRuntime) -> Result<(), Fail> {
-    let map = HashMap::with_hasher(rt.alloc(), LowHashBuilder);
-    let set = HashSet::with_hasher(rt.alloc(), LowHashBuilder);
-    for key in 0..1000u64 {
-        map.insert(&rt, key, key)?;
-        set.insert(&rt, key)?;
-    }
-    assert_same(
+fn a_thousand_of_each(rt: HostRuntime) {
+    lists_a_thousand_pairs(
         &rt,
-        map::to_sorted_pairs(&rt, rt.alloc(), &map)?.0.len(),
-        1000,
+        rt.alloc(),
+        &HashMap::with_hasher(rt.alloc(), LowHashBuilder),
     );
-    assert_same(
+    lists_a_thousand_elements(
         &rt,
-        set::to_sorted_items(&rt, rt.alloc(), &set)?.0.len(),
-        1000,
-    );
-    Ok(())
+        rt.alloc(),
+        &HashSet::with_hasher(rt.alloc(), LowHashBuilder),
+    )
 }
