@@ -4,7 +4,7 @@ use super::workers::insert_all;
 use super::{TURNS, assert_same, number_at, taken};
 use flurry_base::Change;
 use flurry_base::hash::LowHashBuilder;
-use flurry_shared::HashMap;
+use flurry_shared::{HashMap, HashMapRef};
 use std::alloc::{Allocator, Global};
 use std::process::Abort;
 use std::sync::Wait;
@@ -201,26 +201,31 @@ fn replacements_if_a_test_passes(rt: HostRuntime) {
     assert_same(&rt, replace_if(&rt, &map, 4, true), (None, None));
 }
 
+// Adds the key 4 by a computation, and changes its value by a merge.
+fn changes_by_view<R: Abort + Wait>(rt: &R, view: &HashMapRef<'_, R, u64, u64, LowHashBuilder>) {
+    let computed = view.compute(4, |_, _| Some(40)).expect(rt, "memory");
+    assert_same(rt, what_was_done(computed), Done::Added(40));
+    let merged = view.merge(4, 2, |old, new| old.checked_add(new));
+    let merged = merged.expect(rt, "memory");
+    assert_same(rt, what_was_done(merged), Done::Changed(42))
+}
+
+// Changes the value of the key 4, 42, twice, and removes it.
+fn replaces_by_view<R: Abort + Wait>(rt: &R, view: &HashMapRef<'_, R, u64, u64, LowHashBuilder>) {
+    let updated = view.update(&4, |_, _| 43).expect(rt, "memory");
+    assert_same(rt, taken(updated), Some(43));
+    let replaced = view.replace_if(&4, |_, _| true, 44).expect(rt, "memory");
+    assert_same(rt, taken(replaced), Some(43));
+    let removed = view.remove_if(&4, |_, value| *value == 44);
+    assert_same(rt, taken(removed), Some(44))
+}
+
 // The calls of a view are those of its map.
 #[test]
 fn calls_of_a_view(rt: HostRuntime) {
     let map = three_pairs(&rt, rt.alloc());
-    let view = map.pin(&rt);
-    let computed = view.compute(4, |_, _| Some(40)).expect(&rt, "memory");
-    assert_same(&rt, what_was_done(computed), Done::Added(40));
-    let merged = view
-        .merge(4, 2, |old, new| old.checked_add(new))
-        .expect(&rt, "memory");
-    assert_same(&rt, what_was_done(merged), Done::Changed(42));
-    let updated = view.update(&4, |_, _| 43).expect(&rt, "memory");
-    assert_same(&rt, taken(updated), Some(43));
-    let replaced = view.replace_if(&4, |_, _| true, 44).expect(&rt, "memory");
-    assert_same(&rt, taken(replaced), Some(43));
-    assert_same(
-        &rt,
-        taken(view.remove_if(&4, |_, value| *value == 44)),
-        Some(44),
-    );
+    changes_by_view(&rt, &map.pin(&rt));
+    replaces_by_view(&rt, &map.pin(&rt))
 }
 
 // Returns what the function of an insertion of a key returned, if it was called, and the number that then stands.

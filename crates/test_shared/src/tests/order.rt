@@ -5,7 +5,7 @@ use super::workers::{count_own, insert_all, remove_even};
 use super::{assert_same, number_at};
 use flurry_base::hash::{KeyHasher, LowHashBuilder};
 use flurry_shared::HashMap;
-use std::alloc::{AllocError, Allocator};
+use std::alloc::Allocator;
 use std::process::Abort;
 use std::sync::atomic::{AtomicBool, Ordering};
 use std::sync::{Arc, Wait};
@@ -127,25 +127,21 @@ fn has_odd_alone<S: KeyHasher<u64>, A: Allocator + Copy, R: Wait>(
 fn in_thread<
     S: KeyHasher<u64> + Send + Sync + Drop + 'static,
     A: Allocator + Copy + Send + Sync + 'static,
-    R: Threads + Wait + Copy + Send + 'static,
->(
-    rt: R,
-    alloc: A,
-    map: &Arc<HashMap<u64, u64, S, A>, A>,
-    phase: Phase,
-) -> Result<Option<bool>, AllocError> {
-    let done = Arc::new(alloc, AtomicBool::new(false))?;
-    let theirs = Arc::try_clone(map)?;
-    let flag = Arc::try_clone(&done)?;
+    R: Abort + Threads + Wait + Copy + Send + 'static,
+>(rt: R, alloc: A, map: &Arc<HashMap<u64, u64, S, A>, A>, phase: Phase) -> Option<bool> {
+    let done = Arc::new(alloc, AtomicBool::new(false)).expect(&rt, "memory");
+    let theirs = Arc::try_clone(map).expect(&rt, "memory");
+    let flag = Arc::try_clone(&done).expect(&rt, "memory");
     let child = thread::spawn(&rt, move || {
         let answer = run_phase(&rt, &theirs, phase);
         flag.store(true, Ordering::SeqCst);
         answer
-    })?;
+    });
+    let child = child.ok().expect(&rt, "a thread");
     if !is_set_in_time(&done) {
-        return Ok(None);
+        return None;
     }
-    Ok(Some(child.join(&rt)))
+    Some(child.join(&rt))
 }
 
 // Threads that run one after another see what earlier threads did, while the table is doubled four times.
@@ -156,10 +152,6 @@ fn lent_parts(rt: HostRuntime) {
         .with_processors(2);
     let map = Arc::new(rt.alloc(), map).expect(&rt, "memory");
     for phase in [Phase::Fill, Phase::Halve, Phase::LookAfter] {
-        assert_same(
-            &rt,
-            in_thread(rt, rt.alloc(), &map, phase).expect(&rt, "memory"),
-            Some(true),
-        );
+        assert_same(&rt, in_thread(rt, rt.alloc(), &map, phase), Some(true));
     }
 }

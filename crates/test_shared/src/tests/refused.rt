@@ -44,25 +44,30 @@ enum Call {
     Reserve,
 }
 
+// Returns whether a call succeeded. What it returned is dropped here, since each drop in the body of the calls would make its proof longer.
+fn succeeded<T: Drop>(answer: Result<T, AllocError>) -> bool {
+    answer.is_ok()
+}
+
 // Makes the call, of key 99 or of the key 0, and returns whether it succeeded.
 fn is_done<A: Allocator + Copy, R: Wait>(rt: &R, map: &Numbers<A>, call: Call) -> bool {
     match call {
-        Call::Insert => map.insert(rt, 99, 1).is_ok(),
-        Call::Replace => map.insert(rt, 0, 1).is_ok(),
-        Call::TryInsert => map.try_insert(rt, 99, 1).is_ok(),
-        Call::Compute => map.compute_if_present(rt, &0, |_, _| Some(1)).is_ok(),
-        Call::ComputeNew => map.compute(rt, 99, |_, _| Some(1)).is_ok(),
-        Call::ComputeNothing => map.compute(rt, 99, |_, _| None).is_ok(),
-        Call::ComputePresent => map.compute(rt, 0, |_, _| Some(1)).is_ok(),
-        Call::ComputeGone => map.compute(rt, 0, |_, _| None).is_ok(),
-        Call::MergeNew => map.merge(rt, 99, 1, |_, _| None).is_ok(),
-        Call::Merge => map.merge(rt, 0, 1, |_, new| Some(new)).is_ok(),
-        Call::Update => map.update(rt, &0, |_, _| 1).is_ok(),
-        Call::ReplaceIf => map.replace_if(rt, &0, |_, _| true, 1).is_ok(),
+        Call::Insert => succeeded(map.insert(rt, 99, 1)),
+        Call::Replace => succeeded(map.insert(rt, 0, 1)),
+        Call::TryInsert => succeeded(map.try_insert(rt, 99, 1)),
+        Call::Compute => succeeded(map.compute_if_present(rt, &0, |_, _| Some(1))),
+        Call::ComputeNew => succeeded(map.compute(rt, 99, |_, _| Some(1))),
+        Call::ComputeNothing => succeeded(map.compute(rt, 99, |_, _| None)),
+        Call::ComputePresent => succeeded(map.compute(rt, 0, |_, _| Some(1))),
+        Call::ComputeGone => succeeded(map.compute(rt, 0, |_, _| None)),
+        Call::MergeNew => succeeded(map.merge(rt, 99, 1, |_, _| None)),
+        Call::Merge => succeeded(map.merge(rt, 0, 1, |_, new| Some(new))),
+        Call::Update => succeeded(map.update(rt, &0, |_, _| 1)),
+        Call::ReplaceIf => succeeded(map.replace_if(rt, &0, |_, _| true, 1)),
         Call::RemoveIf => map.remove_if(rt, &0, |_, _| true).is_some(),
-        Call::GetOrInsert => map.get_or_insert_with(rt, 99, |_| 1).is_ok(),
-        Call::Get => map.get(rt, &0).is_ok(),
-        Call::Reserve => map.reserve(rt, 100).is_ok(),
+        Call::GetOrInsert => succeeded(map.get_or_insert_with(rt, 99, |_| 1)),
+        Call::Get => succeeded(map.get(rt, &0)),
+        Call::Reserve => succeeded(map.reserve(rt, 100)),
     }
 }
 

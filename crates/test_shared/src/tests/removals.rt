@@ -104,11 +104,11 @@ fn has_none<K: Ord + Drop, S: KeyHasher<K>, A: Allocator + Copy, R: Abort + Wait
 }
 
 // Inserts all keys. Two threads then remove each of them once, with its own number.
-fn come_and_go<R: Abort + Threads + Wait + Sync>(
-    rt: &R,
-    map: &HashMap<&'static str, u64>,
-    keys: &[&'static str],
-) {
+fn come_and_go<
+    K: Ord + Copy + Send + Sync + Drop,
+    S: KeyHasher<K> + Sync,
+    R: Abort + Threads + Wait + Sync,
+>(rt: &R, map: &HashMap<K, u64, S>, keys: &[K]) {
     insert_all(rt, map, keys);
     assert_same(rt, map.len(rt), 64);
     assert_same(rt, remove_in_threads(rt, map, keys), (64, 0));

@@ -103,48 +103,53 @@ fn remove_half<R: Wait>(rt: &R, map: &HashMap<u64, u64>) -> u64 {
     removed
 }
 
+// Returns whether an iterator gave another item, which is dropped.
+fn is_given<T: Drop>(rt: &impl Abort, item: Result<Option<T>, AllocError>) -> bool {
+    item.expect(rt, "memory").is_some()
+}
+
 // How many pairs an iterator has left. It borrows it, since each way out of a body that owns it has a proof of its drop.
-fn count_pairs<R: Wait>(pairs: &mut Iter<'_, R, u64, u64>) -> Result<u64, AllocError> {
+fn count_pairs<R: Abort + Wait>(rt: &R, pairs: &mut Iter<'_, R, u64, u64>) -> u64 {
     let mut count = 0u64;
     for _ in 0..=KEYS {
-        if pairs.next()?.is_none() {
+        if !is_given(rt, pairs.next()) {
             break;
         }
         count = count.saturating_add(1);
     }
-    Ok(count)
+    count
 }
 
 // How many keys an iterator has left.
-fn count_keys<R: Wait>(keys: &mut Keys<'_, R, u64, u64>) -> Result<u64, AllocError> {
+fn count_keys<R: Abort + Wait>(rt: &R, keys: &mut Keys<'_, R, u64, u64>) -> u64 {
     let mut count = 0u64;
     for _ in 0..=KEYS {
-        if keys.next()?.is_none() {
+        if !is_given(rt, keys.next()) {
             break;
         }
         count = count.saturating_add(1);
     }
-    Ok(count)
+    count
 }
 
 // How many values an iterator has left.
-fn count_values<R: Wait>(values: &mut Values<'_, R, u64, u64>) -> Result<u64, AllocError> {
+fn count_values<R: Abort + Wait>(rt: &R, values: &mut Values<'_, R, u64, u64>) -> u64 {
     let mut count = 0u64;
     for _ in 0..=KEYS {
-        if values.next()?.is_none() {
+        if !is_given(rt, values.next()) {
             break;
         }
         count = count.saturating_add(1);
     }
-    Ok(count)
+    count
 }
 
 // How many pairs, keys and values the iterators of a map give.
-fn counts<R: Wait>(rt: &R, map: &HashMap<u64, u64>) -> Result<(u64, u64, u64), AllocError> {
-    let pairs = count_pairs(&mut map.iter(rt))?;
-    let keys = count_keys(&mut map.keys(rt))?;
-    let values = count_values(&mut map.values(rt))?;
-    Ok((pairs, keys, values))
+fn counts<R: Abort + Wait>(rt: &R, map: &HashMap<u64, u64>) -> (u64, u64, u64) {
+    let pairs = count_pairs(rt, &mut map.iter(rt));
+    let keys = count_keys(rt, &mut map.keys(rt));
+    let values = count_values(rt, &mut map.values(rt));
+    (pairs, keys, values)
 }
 
 fn halves_and_fills<R: Abort + Wait>(rt: &R, map: &HashMap<u64, u64>) {
@@ -153,11 +158,7 @@ fn halves_and_fills<R: Abort + Wait>(rt: &R, map: &HashMap<u64, u64>) {
     assert_same(rt, remove_half(rt, map), 25_000);
     assert_same(rt, insert_all(rt, map), 25_000);
     assert_same(rt, map.len(rt), 50_000);
-    assert_same(
-        rt,
-        counts(rt, map).expect(rt, "memory"),
-        (50_000, 50_000, 50_000),
-    );
+    assert_same(rt, counts(rt, map), (50_000, 50_000, 50_000));
 }
 
 // Fifty thousand keys, half of which are removed and inserted again.
