@@ -13,7 +13,6 @@ use std::alloc::{AllocError, Allocator, Global};
 use std::fmt::Debug;
 use std::process::Abort;
 use std::sync::Arc;
-use std::test::Fail;
 
 type Memory = &'static MeteredAlloc<Global>;
 
@@ -107,16 +106,19 @@ fn refused_entry<A: Allocator + Copy>(
 }
 
 #[test]
-fn a_node(rt: HostRuntime) -> Result<(), Fail> {
-    let memory = MeteredAlloc::leak(rt.alloc())?;
-    assert_same(&rt, refused_node(memory, memory)?, (true, true));
+fn a_node(rt: HostRuntime) {
+    let memory = MeteredAlloc::leak(rt.alloc()).expect(&rt, "memory for the allocator");
+    assert_same(
+        &rt,
+        refused_node(memory, memory).expect(&rt, "memory"),
+        (true, true),
+    );
     assert_same(&rt, memory.live_blocks(), 0);
     for k in 0..4u64 {
         let refused = k < 3;
         assert_same_at(&rt, k, refused_entry(memory, memory, k), (refused, refused));
         assert_same_at(&rt, k, memory.live_blocks(), 0);
     }
-    Ok(())
 }
 
 // Returns a bin into which the nodes of the keys below `count` were inserted while every request fails.
@@ -171,11 +173,10 @@ fn calls_of_a_bin<A: Allocator + Copy>(
 }
 
 #[test]
-fn a_bin_asks_for_nothing(rt: HostRuntime) -> Result<(), Fail> {
-    let memory = MeteredAlloc::leak(rt.alloc())?;
-    calls_of_a_bin(&rt, memory, memory)?;
+fn a_bin_asks_for_nothing(rt: HostRuntime) {
+    let memory = MeteredAlloc::leak(rt.alloc()).expect(&rt, "memory for the allocator");
+    calls_of_a_bin(&rt, memory, memory).expect(&rt, "memory");
     assert_same(&rt, (memory.requests(), memory.live_blocks()), (0, 0));
-    Ok(())
 }
 
 // Makes a tree of a bin of 9 keys, and a list again.
@@ -190,11 +191,10 @@ fn plants<A: Allocator>(rt: &impl Abort, bin: &mut NumberBin<A>) {
 }
 
 #[test]
-fn planting_asks_for_nothing(rt: HostRuntime) -> Result<(), Fail> {
-    let memory = MeteredAlloc::leak(rt.alloc())?;
-    plants(&rt, &mut bin_of(memory, memory, 9)?);
+fn planting_asks_for_nothing(rt: HostRuntime) {
+    let memory = MeteredAlloc::leak(rt.alloc()).expect(&rt, "memory for the allocator");
+    plants(&rt, &mut bin_of(memory, memory, 9).expect(&rt, "memory"));
     assert_same(&rt, (memory.requests(), memory.live_blocks()), (0, 0));
-    Ok(())
 }
 
 // Splits a tree of 18 keys, and the list of its higher half.
@@ -217,11 +217,10 @@ fn calls_of_a_list<A: Allocator>(rt: &impl Abort, nodes: Vec<BoxedNode<A>, A>) {
 }
 
 #[test]
-fn lists_and_trees_ask_for_nothing(rt: HostRuntime) -> Result<(), Fail> {
-    let memory = MeteredAlloc::leak(rt.alloc())?;
-    let nodes = nodes(memory, 20)?;
+fn lists_and_trees_ask_for_nothing(rt: HostRuntime) {
+    let memory = MeteredAlloc::leak(rt.alloc()).expect(&rt, "memory for the allocator");
+    let nodes = nodes(memory, 20).expect(&rt, "memory");
     memory.refuse_from(0);
     calls_of_a_list(&rt, nodes);
     assert_same(&rt, (memory.requests(), memory.live_blocks()), (0, 0));
-    Ok(())
 }

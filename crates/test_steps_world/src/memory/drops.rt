@@ -7,7 +7,6 @@ use flurry_steps::party::OwnedCall;
 use metered_alloc::MeteredAlloc;
 use std::alloc::{Allocator, Global};
 use std::process::Abort;
-use std::test::Fail;
 
 // Returns a world of 16 bins, in which party 1 has read the only pair. Three calls have begun, so that there is room for a fourth, and
 // there are `more` labels more.
@@ -57,8 +56,8 @@ fn drops_at<F: ComputeFn<u64, u64> + Copy, A: Allocator + Copy>(
 
 // The list of labels grows now and then, so some of these worlds need room for it.
 #[test]
-fn removals_of_what_was_read(rt: HostRuntime) -> Result<(), Fail> {
-    let memory = MeteredAlloc::leak(rt.alloc())?;
+fn removals_of_what_was_read(rt: HostRuntime) {
+    let memory = MeteredAlloc::leak(rt.alloc()).expect(&rt, "memory for the allocator");
     let mut refused = 0u64;
     for more in 0..16u64 {
         if drops_at::<NoFn, _>(&rt, memory, memory, more) {
@@ -67,5 +66,4 @@ fn removals_of_what_was_read(rt: HostRuntime) -> Result<(), Fail> {
         assert_same_at(&rt, more, memory.live_blocks(), 0);
     }
     assert!(&rt; refused > 0 && refused < 16, "{refused}");
-    Ok(())
 }

@@ -8,7 +8,6 @@ use flurry_steps::party::OwnedCall;
 use metered_alloc::MeteredAlloc;
 use std::alloc::{Allocator, Global};
 use std::process::Abort;
-use std::test::Fail;
 
 // More requests than any call makes.
 const MOST: u64 = 1000;
@@ -177,21 +176,19 @@ fn refuses_walk<F: ComputeFn<u64, u64> + Copy, A: Allocator + Copy>(
 }
 
 #[test]
-fn calls_that_write(rt: HostRuntime) -> Result<(), Fail> {
-    let memory = MeteredAlloc::leak(rt.alloc())?;
+fn calls_that_write(rt: HostRuntime) {
+    let memory = MeteredAlloc::leak(rt.alloc()).expect(&rt, "memory for the allocator");
     refuses_writes(
         &rt,
         memory,
         memory,
         |_key: &u64, value: &u64| value.checked_mul(2),
     );
-    Ok(())
 }
 
 #[test]
-fn calls_that_take_nothing(rt: HostRuntime) -> Result<(), Fail> {
-    let memory = MeteredAlloc::leak(rt.alloc())?;
+fn calls_that_take_nothing(rt: HostRuntime) {
+    let memory = MeteredAlloc::leak(rt.alloc()).expect(&rt, "memory for the allocator");
     refuses_removals::<NoFn, _>(&rt, memory, memory);
     refuses_walk::<NoFn, _>(&rt, memory, memory);
-    Ok(())
 }

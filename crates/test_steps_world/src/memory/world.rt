@@ -12,7 +12,6 @@ use metered_alloc::MeteredAlloc;
 use std::alloc::{AllocError, Allocator, Global};
 use std::fmt::Debug;
 use std::process::Abort;
-use std::test::Fail;
 
 // A world in which the hash of each key is the key. Its allocator is a parameter, because a proof over `Memory` unfolds it in each step.
 pub(super) type Numbers<F, A> = World<'static, u64, u64, F, LowHashBuilder, A>;
@@ -211,12 +210,12 @@ pub(super) fn refused_at<F: ComputeFn<u64, u64> + Copy, A: Allocator + Copy>(
 }
 
 #[test]
-fn a_world_without_a_table(rt: HostRuntime) -> Result<(), Fail> {
+fn a_world_without_a_table(rt: HostRuntime) {
     requests_of_a_new_world::<NoFn>(&rt, rt.alloc(), 0, 1)
 }
 
 #[test]
-fn a_world_with_a_table(rt: HostRuntime) -> Result<(), Fail> {
+fn a_world_with_a_table(rt: HostRuntime) {
     requests_of_a_new_world::<NoFn>(&rt, rt.alloc(), 16, 2)
 }
 
@@ -242,8 +241,8 @@ fn requests_of_a_new_world<F: ComputeFn<u64, u64> + Copy>(
     alloc: Global,
     capacity: usize,
     requests: u64,
-) -> Result<(), Fail> {
-    let memory = MeteredAlloc::leak(alloc)?;
+) {
+    let memory = MeteredAlloc::leak(alloc).expect(rt, "memory for the allocator");
     for k in 0..=requests {
         let refused = k < requests;
         assert_same_at(
@@ -254,19 +253,17 @@ fn requests_of_a_new_world<F: ComputeFn<u64, u64> + Copy>(
         );
         assert_same_at(rt, k, memory.live_blocks(), 0);
     }
-    Ok(())
 }
 
 // The first call makes requests for the room of labels and for the room of calls. A call that fails is no party: the next party has its
 // number.
 #[test]
-fn begin(rt: HostRuntime) -> Result<(), Fail> {
-    let memory = MeteredAlloc::leak(rt.alloc())?;
+fn begin(rt: HostRuntime) {
+    let memory = MeteredAlloc::leak(rt.alloc()).expect(&rt, "memory for the allocator");
     for k in 0..3u64 {
         begins_at::<NoFn, _>(&rt, memory, memory, k);
         assert_same_at(&rt, k, memory.live_blocks(), 0);
     }
-    Ok(())
 }
 
 fn begins_at<F: ComputeFn<u64, u64> + Copy, A: Allocator + Copy>(
@@ -293,17 +290,17 @@ fn begins_at<F: ComputeFn<u64, u64> + Copy, A: Allocator + Copy>(
 
 // An insertion makes requests for the first table, its key, its value and its node, and then for room for the label of its reply.
 #[test]
-fn insertion_into_a_new_world(rt: HostRuntime) -> Result<(), Fail> {
-    let memory = MeteredAlloc::leak(rt.alloc())?;
+fn insertion_into_a_new_world(rt: HostRuntime) {
+    let memory = MeteredAlloc::leak(rt.alloc()).expect(&rt, "memory for the allocator");
     for k in 0..MOST {
         let refused = inserts_at::<NoFn, _>(&rt, rt.alloc(), memory, memory, k);
         assert_same_at(&rt, k, memory.live_blocks(), 0);
         if !refused {
             assert_same(&rt, k, 5);
-            return Ok(());
+            return;
         }
     }
-    Err(Fail::from("it makes fewer requests"))
+    panic!(rt; "it makes fewer requests");
 }
 
 // Returns the labels of a new world with one insertion, with enough memory.
@@ -368,17 +365,17 @@ fn inserted_at<F: ComputeFn<u64, u64> + Copy + Debug, A: Allocator + Copy>(
 // The insertion that reaches the threshold also makes a request for a larger table. If that fails, the insertion continues, and the next
 // one makes the request again.
 #[test]
-fn insertion_that_grows(rt: HostRuntime) -> Result<(), Fail> {
-    let memory = MeteredAlloc::leak(rt.alloc())?;
+fn insertion_that_grows(rt: HostRuntime) {
+    let memory = MeteredAlloc::leak(rt.alloc()).expect(&rt, "memory for the allocator");
     for k in 0..MOST {
         let refused = grows_at::<NoFn, _>(&rt, rt.alloc(), memory, memory, k);
         assert_same_at(&rt, k, memory.live_blocks(), 0);
         if !refused {
             assert_same(&rt, k, 5);
-            return Ok(());
+            return;
         }
     }
-    Err(Fail::from("it makes fewer requests"))
+    panic!(rt; "it makes fewer requests");
 }
 
 // Returns whether the insertion made the request numbered `k`.
@@ -426,18 +423,18 @@ fn grown_at<F: ComputeFn<u64, u64> + Copy + Debug, A: Allocator + Copy>(
 
 // A look-up makes a request for room for its labels, and no other.
 #[test]
-fn look_up(rt: HostRuntime) -> Result<(), Fail> {
-    let memory = MeteredAlloc::leak(rt.alloc())?;
+fn look_up(rt: HostRuntime) {
+    let memory = MeteredAlloc::leak(rt.alloc()).expect(&rt, "memory for the allocator");
     for k in 0..MOST {
         let seen = looks_up_at::<NoFn, _>(&rt, memory, memory, k);
         assert_same_at(&rt, k, memory.live_blocks(), 0);
         if seen.is_none() {
             assert_same(&rt, k, 1);
-            return Ok(());
+            return;
         }
         assert_same_at(&rt, k, seen, Some((Told::Step, reply(Some(0)))));
     }
-    Err(Fail::from("it makes fewer requests"))
+    panic!(rt; "it makes fewer requests");
 }
 
 fn looks_up_at<F: ComputeFn<u64, u64> + Copy, A: Allocator + Copy>(
@@ -457,17 +454,15 @@ fn looks_up_at<F: ComputeFn<u64, u64> + Copy, A: Allocator + Copy>(
 // If there is no table, a reserve makes a request for a table of 256 bins. Then, as in every case, it makes a request for each table up to
 // the one of 512 bins, the first whose threshold is at least 256.
 #[test]
-fn reserve_in_a_new_world(rt: HostRuntime) -> Result<(), Fail> {
-    let memory = MeteredAlloc::leak(rt.alloc())?;
+fn reserve_in_a_new_world(rt: HostRuntime) {
+    let memory = MeteredAlloc::leak(rt.alloc()).expect(&rt, "memory for the allocator");
     assert_same(&rt, refusals_of_a_reserve(&rt, memory, 0), 2);
-    Ok(())
 }
 
 #[test]
-fn reserve_in_a_world_of_16_bins(rt: HostRuntime) -> Result<(), Fail> {
-    let memory = MeteredAlloc::leak(rt.alloc())?;
+fn reserve_in_a_world_of_16_bins(rt: HostRuntime) {
+    let memory = MeteredAlloc::leak(rt.alloc()).expect(&rt, "memory for the allocator");
     assert_same(&rt, refusals_of_a_reserve(&rt, memory, 1), 5);
-    Ok(())
 }
 
 // Returns how many requests of a reserve make it fail, in a world of `count` keys.
@@ -552,17 +547,17 @@ fn text_of_steps<F: ComputeFn<u64, u64> + Copy + Debug, A: Allocator + Copy>(
 // A list stops if memory for a label or a party cannot be allocated, and the rest of it may be run later. A call that fails is a step like
 // any other.
 #[test]
-fn run(rt: HostRuntime) -> Result<(), Fail> {
-    let memory = MeteredAlloc::leak(rt.alloc())?;
+fn run(rt: HostRuntime) {
+    let memory = MeteredAlloc::leak(rt.alloc()).expect(&rt, "memory for the allocator");
     for k in 0..MOST {
         let refused = runs_at::<NoFn, _>(&rt, rt.alloc(), memory, memory, k);
         assert_same_at(&rt, k, memory.live_blocks(), 0);
         if !refused {
             assert_same(&rt, k, 9);
-            return Ok(());
+            return;
         }
     }
-    Err(Fail::from("it makes fewer requests"))
+    panic!(rt; "it makes fewer requests");
 }
 
 // Returns whether the steps made the request numbered `k`.

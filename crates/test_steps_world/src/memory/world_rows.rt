@@ -8,7 +8,6 @@ use metered_alloc::MeteredAlloc;
 use std::alloc::{Allocator, Global};
 use std::fmt::Debug;
 use std::process::Abort;
-use std::test::Fail;
 
 // Asserts that `labels` are the labels from `first` on.
 fn shows<F: ComputeFn<u64, u64> + Copy + Debug, A: Allocator + Copy>(
@@ -22,10 +21,9 @@ fn shows<F: ComputeFn<u64, u64> + Copy + Debug, A: Allocator + Copy>(
 }
 
 #[test]
-fn first_table_refused(rt: HostRuntime) -> Result<(), Fail> {
-    let memory = MeteredAlloc::leak(rt.alloc())?;
+fn first_table_refused(rt: HostRuntime) {
+    let memory = MeteredAlloc::leak(rt.alloc()).expect(&rt, "memory for the allocator");
     refuses_first_table::<NoFn, _>(&rt, rt.alloc(), memory, memory);
-    Ok(())
 }
 
 fn refuses_first_table<F: ComputeFn<u64, u64> + Copy + Debug, A: Allocator + Copy>(
@@ -53,10 +51,9 @@ fn refuses_first_table<F: ComputeFn<u64, u64> + Copy + Debug, A: Allocator + Cop
 }
 
 #[test]
-fn larger_table_of_an_insertion_refused(rt: HostRuntime) -> Result<(), Fail> {
-    let memory = MeteredAlloc::leak(rt.alloc())?;
+fn larger_table_of_an_insertion_refused(rt: HostRuntime) {
+    let memory = MeteredAlloc::leak(rt.alloc()).expect(&rt, "memory for the allocator");
     refuses_larger_table::<NoFn, _>(&rt, rt.alloc(), memory, memory);
-    Ok(())
 }
 
 // Returns a world of 16 bins, in which the parties 0 to 10 have inserted their numbers as keys.
@@ -100,10 +97,9 @@ fn refuses_larger_table<F: ComputeFn<u64, u64> + Copy + Debug, A: Allocator + Co
 }
 
 #[test]
-fn larger_table_of_a_reserve_refused(rt: HostRuntime) -> Result<(), Fail> {
-    let memory = MeteredAlloc::leak(rt.alloc())?;
+fn larger_table_of_a_reserve_refused(rt: HostRuntime) {
+    let memory = MeteredAlloc::leak(rt.alloc()).expect(&rt, "memory for the allocator");
     refuses_reserve::<NoFn, _>(&rt, rt.alloc(), memory, memory);
-    Ok(())
 }
 
 fn refuses_reserve<F: ComputeFn<u64, u64> + Copy + Debug, A: Allocator + Copy>(
