@@ -7,7 +7,6 @@ use metered_alloc::MeteredAlloc;
 use std::alloc::{AllocError, Allocator, Global};
 use std::process::Abort;
 use std::sync::Arc;
-use std::test::Fail;
 
 // The value that the key had, if any, and whether the bin asks for a larger table.
 type Reply = (Option<u64>, bool);
@@ -79,11 +78,19 @@ fn shape_of<A: Allocator + Copy>(memory: A, count: u64, bins: usize) -> Result<S
 }
 
 #[test]
-fn a_bin_that_grows_by_insertions(rt: HostRuntime) -> Result<(), Fail> {
-    insert_more(&rt, &mut bin_of(rt.alloc(), 8, 16)?, rt.alloc())?;
-    assert_same(&rt, shape_of(rt.alloc(), 8, 64)?, Shape::List(8));
-    assert_same(&rt, shape_of(rt.alloc(), 9, 64)?, Shape::Tree(9));
-    Ok(())
+fn a_bin_that_grows_by_insertions(rt: HostRuntime) {
+    let mut bin = bin_of(rt.alloc(), 8, 16).expect(&rt, "memory");
+    insert_more(&rt, &mut bin, rt.alloc()).expect(&rt, "memory");
+    assert_same(
+        &rt,
+        shape_of(rt.alloc(), 8, 64).expect(&rt, "memory"),
+        Shape::List(8),
+    );
+    assert_same(
+        &rt,
+        shape_of(rt.alloc(), 9, 64).expect(&rt, "memory"),
+        Shape::Tree(9),
+    );
 }
 
 // Inserts a key into a bin of `count` even keys, where the request numbered `k` fails, and returns whether that request was made. If it
@@ -93,8 +100,8 @@ fn refused<A: Allocator + Copy>(
     metered: &MeteredAlloc<Global>,
     memory: A,
     (count, key, k): (u64, u64, u64),
-) -> Result<bool, Fail> {
-    let mut bin = bin_of(memory, count, 64)?;
+) -> bool {
+    let mut bin = bin_of(memory, count, 64).expect(rt, "memory for the bin");
     let before = (bin.shape(), value_at(&bin, key), metered.live_blocks());
     metered.refuse_at(k);
     let reply = insert(&mut bin, memory, key, 1000, 64);
@@ -115,25 +122,24 @@ fn refused<A: Allocator + Copy>(
         assert_same(rt, reply.ok(), Some((before.1, false)));
         assert_same(rt, value_at(&bin, key), Some(1000));
     }
-    Ok(refused)
+    refused
 }
 
 // Each request of an insertion fails in turn: there are three for an absent key, and one for a present one.
 #[test]
-fn refused_insertions(rt: HostRuntime) -> Result<(), Fail> {
-    let memory = MeteredAlloc::leak(rt.alloc())?;
+fn refused_insertions(rt: HostRuntime) {
+    let memory = MeteredAlloc::leak(rt.alloc()).expect(&rt, "memory for the allocator");
     for count in [0u64, 1, 2, 8, 9, 30] {
         for key in [1u64, 4] {
             let wanted = if key == 4 && count > 2 { 1u64 } else { 3 };
             for k in 0u64..4 {
                 assert_same(
                     &rt,
-                    refused(&rt, memory, memory, (count, key, k))?,
+                    refused(&rt, memory, memory, (count, key, k)),
                     k < wanted,
                 );
             }
         }
     }
     assert_same(&rt, memory.live_blocks(), 0);
-    Ok(())
 }

@@ -8,7 +8,6 @@ use flurry_run_lines::schedule::{Line, parse_line};
 use flurry_run_lines::{Input, Output, Sink, Source};
 use std::alloc::Global;
 use std::io;
-use std::test::Fail;
 
 // Returns the key of a command, if it has one.
 fn key_in(line: &[u8]) -> Option<u64> {
@@ -70,18 +69,32 @@ fn what_lines_ask_for(rt: HostRuntime) {
 }
 
 #[test]
-fn lines_of_bytes(rt: HostRuntime) -> Result<(), Fail> {
+fn lines_of_bytes(rt: HostRuntime) {
     let mut bytes = b"len\nbins".as_slice();
-    assert_same(&rt, first_byte(rt.alloc(), bytes)?, Some(b'l'));
-    assert_same(&rt, has_line_feed(&mut bytes)?, true);
-    assert_same(&rt, has_line_feed(&mut bytes)?, false);
-    assert_same(&rt, is_at_end(&mut bytes)?, true);
-    Ok(())
+    assert_same(
+        &rt,
+        first_byte(rt.alloc(), bytes).expect(&rt, "bytes that can be read"),
+        Some(b'l'),
+    );
+    assert_same(
+        &rt,
+        has_line_feed(&mut bytes).expect(&rt, "bytes that can be read"),
+        true,
+    );
+    assert_same(
+        &rt,
+        has_line_feed(&mut bytes).expect(&rt, "bytes that can be read"),
+        false,
+    );
+    assert_same(
+        &rt,
+        is_at_end(&mut bytes).expect(&rt, "bytes that can be read"),
+        true,
+    );
 }
 
 #[test]
-fn a_line_that_is_written(rt: HostRuntime) -> Result<(), Fail> {
-    let output = written_line(rt.alloc(), 7)?;
+fn a_line_that_is_written(rt: HostRuntime) {
+    let output = written_line(rt.alloc(), 7).expect(&rt, "memory");
     assert_same(&rt, output.get_ref().as_slice(), b"some 7\n".as_slice());
-    Ok(())
 }

@@ -6,7 +6,6 @@ use std::alloc::Global;
 use std::io;
 use std::process::Abort;
 use std::sync::Wait;
-use std::test::Fail;
 use std::thread::Threads;
 
 type Memory = &'static MeteredAlloc<Global>;
@@ -42,11 +41,14 @@ fn refuse_each(
     words: &[&str],
     lines: &[u8],
     ends: &[End<'_>],
-) -> Result<u64, Fail> {
-    let memory = MeteredAlloc::leak(rt.alloc())?;
+) -> u64 {
+    let memory = MeteredAlloc::leak(rt.alloc()).expect(rt, "memory for the allocator");
     let mut place = 0usize;
     for k in 0..MAX_REQUESTS {
-        let (status, output, refused) = run_without(rt, memory, k, words, lines)?;
+        let (status, output, refused) = run_without(rt, memory, k, words, lines).expect(
+            rt,
+            "memory for the output",
+        );
         let end = (status, output.get_ref().as_slice());
         if ends.get(place) != Some(&end) {
             place = place.saturating_add(1);
@@ -55,39 +57,37 @@ fn refuse_each(
         assert_eq!(rt; memory.live_blocks(), 0, "at {k}");
         if !refused {
             assert_eq!(rt; place.saturating_add(1), ends.len());
-            return Ok(k);
+            return k;
         }
     }
-    Err(Fail::from("a run with no request refused"))
+    panic!(rt; "a run with no request refused")
 }
 
 #[test]
-fn insertions_into_one_map(rt: HostRuntime) -> Result<(), Fail> {
+fn insertions_into_one_map(rt: HostRuntime) {
     let lines = b"insert 7 0\nget 7\ninsert 8 0\nlen\n".as_slice();
     let ends = [
         (0, b"refused\nnone\nnone\n1\n".as_slice()),
         (0, b"none\nsome 0\nrefused\n1\n".as_slice()),
         (0, b"none\nsome 0\nnone\n2\n".as_slice()),
     ];
-    refuse_each(&rt, &["seq"], lines, &ends)?;
-    Ok(())
+    refuse_each(&rt, &["seq"], lines, &ends);
 }
 
 #[test]
-fn tries_at_one_map(rt: HostRuntime) -> Result<(), Fail> {
+fn tries_at_one_map(rt: HostRuntime) {
     let lines = b"try 7 0\nget 7\ntry 8 0\nlen\n".as_slice();
     let ends = [
         (0, b"refused\nnone\nnew 0\n1\n".as_slice()),
         (0, b"new 0\nsome 0\nrefused\n1\n".as_slice()),
         (0, b"new 0\nsome 0\nnew 0\n2\n".as_slice()),
     ];
-    refuse_each(&rt, &["seq"], lines, &ends)?;
-    Ok(())
+    refuse_each(&rt, &["seq"], lines, &ends);
 }
 
 // Memory cannot be allocated for the world or its first call, for the insertion, or for the fifth label.
 #[test]
-fn insertion_into_a_world(rt: HostRuntime) -> Result<(), Fail> {
+fn insertion_into_a_world(rt: HostRuntime) {
     let lines = b"world 1 8\nbegin insert 1 1\nstep 0 4\n".as_slice();
     let ends = [
         (3, b"out of memory\n".as_slice()),
@@ -104,14 +104,13 @@ fn insertion_into_a_world(rt: HostRuntime) -> Result<(), Fail> {
             b"begin 0\nsilent 0\ndecide 0 none\nsilent 0\nreply 0 none\n".as_slice(),
         ),
     ];
-    refuse_each(&rt, &["world"], lines, &ends)?;
-    Ok(())
+    refuse_each(&rt, &["world"], lines, &ends);
 }
 
 // Memory cannot be allocated in the removal of what a walk has read, whose label is the ninth. After an insertion that failed there is
 // nothing to read.
 #[test]
-fn removal_in_a_world(rt: HostRuntime) -> Result<(), Fail> {
+fn removal_in_a_world(rt: HostRuntime) {
     let lines = b"world 1 1\nbegin insert 1 1\nstep 0 3\nbegin walk\nstep 1 3\n\
         begin drop 1\nbegin drop 0\nstep 2 2\n"
         .as_slice();
@@ -140,13 +139,12 @@ fn removal_in_a_world(rt: HostRuntime) -> Result<(), Fail> {
                 .as_slice(),
         ),
     ];
-    refuse_each(&rt, &["world"], lines, &ends)?;
-    Ok(())
+    refuse_each(&rt, &["world"], lines, &ends);
 }
 
 // Memory cannot be allocated for the first table of a world. A look-up after that finds no table.
 #[test]
-fn first_table_of_a_world(rt: HostRuntime) -> Result<(), Fail> {
+fn first_table_of_a_world(rt: HostRuntime) {
     let lines = b"world 1 0\nbegin reserve 0\nstep 0 2\nbegin get 1\nstep 1 2\n".as_slice();
     let ends = [
         (3, b"out of memory\n".as_slice()),
@@ -167,15 +165,13 @@ fn first_table_of_a_world(rt: HostRuntime) -> Result<(), Fail> {
             b"begin 0\nopened 0\nsilent 0\nbegin 1\nsilent 1\ndecide 1 none\n".as_slice(),
         ),
     ];
-    refuse_each(&rt, &["world"], lines, &ends)?;
-    Ok(())
+    refuse_each(&rt, &["world"], lines, &ends);
 }
 
 // Memory cannot be allocated for the map's table, or for a key, its value or its node.
 #[test]
-fn insertions_of_a_thread(rt: HostRuntime) -> Result<(), Fail> {
+fn insertions_of_a_thread(rt: HostRuntime) {
     let ends = [(3, b"out of memory\n".as_slice()), (0, b"3\n".as_slice())];
-    let requests = refuse_each(&rt, &["threads", "1", "3"], b"".as_slice(), &ends)?;
+    let requests = refuse_each(&rt, &["threads", "1", "3"], b"".as_slice(), &ends);
     assert_eq!(rt; requests, 2 + 9);
-    Ok(())
 }

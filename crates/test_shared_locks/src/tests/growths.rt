@@ -10,7 +10,6 @@ use std::alloc::Allocator;
 use std::process::Abort;
 use std::sync::Wait;
 use std::sync::atomic::{AtomicU64, Ordering};
-use std::test::Fail;
 use std::thread;
 use std::thread::Threads;
 
@@ -156,17 +155,15 @@ fn each_bin_is_moved_once<A: Allocator + Copy + Send + Sync, R: Abort + Threads 
 }
 
 #[test]
-fn four_threads_grow_a_table(rt: HostRuntime) -> Result<(), Fail> {
-    let locks = Locks::with_table(rt.alloc(), TABLE)?;
+fn four_threads_grow_a_table(rt: HostRuntime) {
+    let locks = Locks::with_table(rt.alloc(), TABLE).expect(&rt, "memory");
     each_bin_is_moved_once(&rt, &locks, 4);
-    Ok(())
 }
 
 #[test]
-fn eight_threads_grow_a_table(rt: HostRuntime) -> Result<(), Fail> {
-    let locks = Locks::with_table(rt.alloc(), TABLE)?;
+fn eight_threads_grow_a_table(rt: HostRuntime) {
+    let locks = Locks::with_table(rt.alloc(), TABLE).expect(&rt, "memory");
     each_bin_is_moved_once(&rt, &locks, 8);
-    Ok(())
 }
 
 // Does the first steps of a call, `steps` of them, and then stops for good. Returns what the last of them was.
@@ -225,10 +222,9 @@ fn goes_on_without_a_helper<A: Allocator + Copy + Send + Sync, R: Abort + Thread
 }
 
 #[test]
-fn a_helper_that_stops_for_good(rt: HostRuntime) -> Result<(), Fail> {
-    let locks = Locks::with_table(rt.alloc(), 6)?;
+fn a_helper_that_stops_for_good(rt: HostRuntime) {
+    let locks = Locks::with_table(rt.alloc(), 6).expect(&rt, "memory");
     goes_on_without_a_helper(&rt, &locks);
-    Ok(())
 }
 
 // Returns how many steps a call takes.
@@ -264,10 +260,9 @@ fn twenty_calls_have_a_seat<A: Allocator + Copy, R: Abort + Wait>(
 }
 
 #[test]
-fn seats_come_back(rt: HostRuntime) -> Result<(), Fail> {
-    let locks = Locks::with_table(rt.alloc(), 6)?;
+fn seats_come_back(rt: HostRuntime) {
+    let locks = Locks::with_table(rt.alloc(), 6).expect(&rt, "memory");
     twenty_calls_have_a_seat(&rt, &locks);
-    Ok(())
 }
 
 // Returns whether calls count at the control, once it was locked.
@@ -295,8 +290,7 @@ fn is_due_until_nothing_is_left<A: Allocator + Copy, R: Abort + Wait>(
 }
 
 #[test]
-fn a_growth_is_due_until_nothing_is_left(rt: HostRuntime) -> Result<(), Fail> {
-    let locks = Locks::with_table(rt.alloc(), 10)?;
+fn a_growth_is_due_until_nothing_is_left(rt: HostRuntime) {
+    let locks = Locks::with_table(rt.alloc(), 10).expect(&rt, "memory");
     is_due_until_nothing_is_left(&rt, &locks);
-    Ok(())
 }

@@ -8,7 +8,6 @@ use flurry_steps_drive::drive_alone;
 use flurry_steps_world::Parts;
 use std::process::Abort;
 use std::sync::Wait;
-use std::test::Fail;
 
 // Returns the insertions of the keys 0 to 99, after which each of them is found, and the key 100 is not.
 fn hundred_keys() -> [Do<NoFn>; 3] {
@@ -39,8 +38,7 @@ fn twice_alone<F: ComputeFn<u64, u64>, R: Wait + Abort>(rt: &R, parts: &mut Part
 }
 
 #[test]
-fn driven_alone(rt: HostRuntime) -> Result<(), Fail> {
-    let mut parts: Parts<u64, u64> = Parts::new(rt.alloc())?;
+fn driven_alone(rt: HostRuntime) {
+    let mut parts: Parts<u64, u64> = Parts::new(rt.alloc()).expect(&rt, "memory");
     twice_alone::<NoFn, _>(&rt, &mut parts);
-    Ok(())
 }

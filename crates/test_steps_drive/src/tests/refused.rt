@@ -9,7 +9,6 @@ use metered_alloc::MeteredAlloc;
 use std::alloc::{Allocator, Global};
 use std::process::Abort;
 use std::sync::Wait;
-use std::test::Fail;
 
 // Returns the reply of a call on an empty map whose request numbered `k` fails, the reply of a look-up of the key 7 with enough memory, and
 // whether that request was made.
@@ -54,15 +53,14 @@ fn refuses_each<F: ComputeFn<u64, u64> + Copy, A: Allocator + Copy, R: Wait + Ab
 
 // The requests are for a table, the key, the value and the node. If one of them fails, the map is empty afterwards.
 #[test]
-fn refused_insertions(rt: HostRuntime) -> Result<(), Fail> {
-    let memory = MeteredAlloc::leak(rt.alloc())?;
+fn refused_insertions(rt: HostRuntime) {
+    let memory = MeteredAlloc::leak(rt.alloc()).expect(&rt, "memory for the allocator");
     refuses_each::<NoFn, _, _>(&rt, memory, memory, OwnedCall::Insert(7, 1), value(None));
-    Ok(())
 }
 
 #[test]
-fn refused_alterations(rt: HostRuntime) -> Result<(), Fail> {
-    let memory = MeteredAlloc::leak(rt.alloc())?;
+fn refused_alterations(rt: HostRuntime) {
+    let memory = MeteredAlloc::leak(rt.alloc()).expect(&rt, "memory for the allocator");
     let new = Plain::OutcomeReply(KeptReply::New(1));
     refuses_each(
         &rt,
@@ -71,5 +69,4 @@ fn refused_alterations(rt: HostRuntime) -> Result<(), Fail> {
         OwnedCall::Alter(7, Becomes(Some(1))),
         new,
     );
-    Ok(())
 }
