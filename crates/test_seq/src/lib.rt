@@ -1,4 +1,5 @@
-//! Tests of the owned map by worked examples. The values of each row were worked out by hand.
+//! Tests of the owned map and set by worked examples, whose values were worked out by hand, and of their calls when memory cannot be
+//! allocated.
 #![tactic(auto)]
 
 #[cfg(test)]

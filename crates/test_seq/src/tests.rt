@@ -7,25 +7,26 @@ mod growth;
 mod iterators;
 mod keys;
 mod large;
+mod memory;
 mod pairs;
 mod retain;
 mod sets;
 mod shapes;
 mod steps;
 
-use std::alloc::Global;
+use std::alloc::{Allocator, Global};
 use std::collections::VecDeque;
 use std::fmt::{Debug, Display};
 use std::process::Abort;
 use std::sync::Arc;
 
 // Returns the number in a value that a call returned.
-fn taken(value: Option<Arc<u64>>) -> Option<u64> {
+fn taken<A: Allocator>(value: Option<Arc<u64, A>>) -> Option<u64> {
     value.map(|value| *value)
 }
 
 // Returns the number in a value to which a call returned a reference.
-fn lent(value: Option<&Arc<u64>>) -> Option<u64> {
+fn lent<A: Allocator>(value: Option<&Arc<u64, A>>) -> Option<u64> {
     value.map(|value| **value)
 }
 

@@ -1,4 +1,4 @@
-//! Tests of the shared map: each call in one thread, and calls of several threads at the same time.
+//! Tests of the shared map: each call in one thread, calls of several threads at the same time, and walks and calls that visit many pairs.
 #![tactic(auto)]
 
 #[cfg(test)]

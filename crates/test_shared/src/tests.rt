@@ -7,6 +7,7 @@ mod owned;
 mod refused;
 mod removals;
 mod rows;
+mod sweeps;
 mod threads;
 mod workers;
 

@@ -1,4 +1,5 @@
-//! Tests of single calls of a shared map, over tables for which memory can fail.
+//! Tests of the control, of slots and of the cursor of walks and clears; and of single calls in steps, over tables for which memory can
+//! fail.
 #![tactic(auto)]
 
 #[cfg(test)]

@@ -1,7 +1,10 @@
-//! Calls in steps.
+//! The tests by topic, and what they share.
 
+mod control;
+mod cursor;
 mod first_steps;
 mod party;
+mod slot;
 
 use std::fmt::{Debug, Display};
 use std::process::Abort;

@@ -10,7 +10,6 @@ use metered_alloc::MeteredAlloc;
 use std::alloc::{AllocError, Allocator, Global};
 use std::process::Abort;
 use std::sync::Wait;
-use std::test::Fail;
 use std::thread::Threads;
 
 type Memory = &'static MeteredAlloc<Global>;
@@ -127,8 +126,8 @@ fn refuse_each<R: Abort + Wait>(rt: &R, memory: Memory, (keys, call): (u64, Call
 // A table takes two requests, and the board and the seats of the growth that fills it five more. Room for 100 pairs is 256 bins and one
 // growth, or five growths from 16 bins.
 #[test]
-fn each_request_of_a_call(rt: HostRuntime) -> Result<(), Fail> {
-    let memory = MeteredAlloc::leak(rt.alloc())?;
+fn each_request_of_a_call(rt: HostRuntime) {
+    let memory = MeteredAlloc::leak(rt.alloc()).expect(&rt, "memory for the allocator");
     for (keys, call, requests) in [
         (0, Call::Insert, 5),
         (1, Call::Insert, 3),
@@ -143,14 +142,13 @@ fn each_request_of_a_call(rt: HostRuntime) -> Result<(), Fail> {
     ] {
         refuse_each(&rt, memory, (keys, call), requests);
     }
-    Ok(())
 }
 
 // A new key takes what an insertion of it takes, and a present one the `Arc` of its new value. Where no value is to stand, a computation
 // takes no more than a first table.
 #[test]
-fn each_request_of_a_call_by_a_function(rt: HostRuntime) -> Result<(), Fail> {
-    let memory = MeteredAlloc::leak(rt.alloc())?;
+fn each_request_of_a_call_by_a_function(rt: HostRuntime) {
+    let memory = MeteredAlloc::leak(rt.alloc()).expect(&rt, "memory for the allocator");
     for (keys, call, requests) in [
         (0, Call::ComputeNew, 5),
         (1, Call::ComputeNew, 3),
@@ -171,18 +169,16 @@ fn each_request_of_a_call_by_a_function(rt: HostRuntime) -> Result<(), Fail> {
     ] {
         refuse_each(&rt, memory, (keys, call), requests);
     }
-    Ok(())
 }
 
 // If memory for the larger table, its board or a seat cannot be allocated, the insertion is done in the old table.
 #[test]
-fn a_larger_table_of_an_insertion(rt: HostRuntime) -> Result<(), Fail> {
-    let memory = MeteredAlloc::leak(rt.alloc())?;
+fn a_larger_table_of_an_insertion(rt: HostRuntime) {
+    let memory = MeteredAlloc::leak(rt.alloc()).expect(&rt, "memory for the allocator");
     for k in 3..10u64 {
         let seen = call_without(&rt, memory, (11, Call::Insert), k);
         assert_same(&rt, (k, seen), (k, (true, true, true, 12)));
     }
-    Ok(())
 }
 
 // Makes room for another pair while the request numbered `k` fails, and then with memory. Returns whether the first attempt failed and the
@@ -208,14 +204,13 @@ fn requests_after_a_refusal<R: Abort + Wait>(rt: &R, memory: Memory, k: u64) -> 
 // Two growths, to 32 and to 64 bins, take seven requests each. A growth that is refused leaves neither a table nor a board nor seats: the
 // next attempt makes all of its requests.
 #[test]
-fn a_refused_growth_leaves_nothing(rt: HostRuntime) -> Result<(), Fail> {
-    let memory = MeteredAlloc::leak(rt.alloc())?;
+fn a_refused_growth_leaves_nothing(rt: HostRuntime) {
+    let memory = MeteredAlloc::leak(rt.alloc()).expect(&rt, "memory for the allocator");
     for k in 0..14u64 {
         let asked = if k < 7 { 14 } else { 7 };
         let seen = requests_after_a_refusal(&rt, memory, k);
         assert_same(&rt, (k, seen), (k, (true, asked)));
     }
-    Ok(())
 }
 
 // Returns a map with room for `capacity` numbers.
@@ -234,32 +229,30 @@ fn map_with_room_by_default<A: Allocator + Copy>(
 }
 
 #[test]
-fn a_map_with_room(rt: HostRuntime) -> Result<(), Fail> {
-    let memory = MeteredAlloc::leak(rt.alloc())?;
+fn a_map_with_room(rt: HostRuntime) {
+    let memory = MeteredAlloc::leak(rt.alloc()).expect(&rt, "memory for the allocator");
     for k in 0..3u64 {
         memory.refuse_at(k);
-        assert_same(&rt, (k, map_with_room(memory, 5).is_ok()), (k, k == 2));
+        assert_same(&rt, (k, succeeded(map_with_room(memory, 5))), (k, k == 2));
         memory.refuse_nothing();
         assert_same(&rt, memory.live_blocks(), 0);
     }
-    Ok(())
 }
 
 // A map with room and the default hasher, which takes no memory.
 #[test]
-fn a_map_with_room_by_default(rt: HostRuntime) -> Result<(), Fail> {
-    let memory = MeteredAlloc::leak(rt.alloc())?;
+fn a_map_with_room_by_default(rt: HostRuntime) {
+    let memory = MeteredAlloc::leak(rt.alloc()).expect(&rt, "memory for the allocator");
     for k in 0..3u64 {
         memory.refuse_at(k);
         assert_same(
             &rt,
-            (k, map_with_room_by_default(memory).is_ok()),
+            (k, succeeded(map_with_room_by_default(memory))),
             (k, k == 2),
         );
         memory.refuse_nothing();
         assert_same(&rt, memory.live_blocks(), 0);
     }
-    Ok(())
 }
 
 // Returns an owned map of three keys, each with itself as its value.
@@ -291,13 +284,12 @@ fn share_without<R: Abort + Wait>(rt: &R, memory: Memory, k: u64) {
 
 // Memory for each of the two tables of a shared map cannot be allocated.
 #[test]
-fn the_tables_of_a_shared_map(rt: HostRuntime) -> Result<(), Fail> {
-    let memory = MeteredAlloc::leak(rt.alloc())?;
+fn the_tables_of_a_shared_map(rt: HostRuntime) {
+    let memory = MeteredAlloc::leak(rt.alloc()).expect(&rt, "memory for the allocator");
     for k in 0..2u64 {
         share_without(&rt, memory, k);
     }
     assert_same(&rt, memory.live_blocks(), 0);
-    Ok(())
 }
 
 // Makes an owned map of a shared one, and returns whether that succeeded.
@@ -316,14 +308,13 @@ fn is_owned_without<R: Abort + Wait>(rt: &R, memory: Memory, k: u64) -> bool {
 
 // The owned map that a shared map becomes requests memory for its table and for a node of each pair.
 #[test]
-fn the_requests_of_an_owned_map_again(rt: HostRuntime) -> Result<(), Fail> {
-    let memory = MeteredAlloc::leak(rt.alloc())?;
+fn the_requests_of_an_owned_map_again(rt: HostRuntime) {
+    let memory = MeteredAlloc::leak(rt.alloc()).expect(&rt, "memory for the allocator");
     for k in 0..5u64 {
         let done = is_owned_without(&rt, memory, k);
         assert_same(&rt, (k, done), (k, k == 4));
         assert_same(&rt, memory.live_blocks(), 0);
     }
-    Ok(())
 }
 
 // Four threads insert into a map of sixteen pairs while this memory runs out.
@@ -343,44 +334,46 @@ fn run_out<A: Allocator + Copy + Send + Sync, R: Abort + Threads + Wait + Sync>(
 
 // Four threads insert while memory runs out. The earlier pairs stay, and the count is that of the keys that are present.
 #[test]
-fn threads_without_memory(rt: HostRuntime) -> Result<(), Fail> {
-    let memory = MeteredAlloc::leak(rt.alloc())?;
+fn threads_without_memory(rt: HostRuntime) {
+    let memory = MeteredAlloc::leak(rt.alloc()).expect(&rt, "memory for the allocator");
     for k in [0u64, 100, 1000] {
         run_out(&rt, memory, k, &numbers(&rt, memory, 16));
         assert_same(&rt, memory.live_blocks(), 0);
     }
-    Ok(())
 }
 
-// Fills a map with room for a thousand pairs, and makes an owned map of it. Returns how many requests each of the two makes, if both
-// succeed.
-fn requests_with_room<R: Abort + Wait>(rt: &R, memory: Memory) -> Option<(u64, u64)> {
-    memory.refuse_nothing();
+// Inserts a thousand pairs, and returns how many requests were made up to the last of them. Later ones are counted from 0 on.
+fn requests_up_to_here<A: Allocator + Copy, R: Abort + Wait>(
+    rt: &R,
+    metered: &MeteredAlloc<Global>,
+    map: &Numbers<A>,
+) -> u64 {
+    fill(rt, map, 1000);
+    let asked = metered.requests();
+    metered.refuse_nothing();
+    asked
+}
+
+// Creates a map with room for a thousand pairs, inserts them, and makes an owned map of it. Returns how many requests were made up to the
+// last insertion, and whether the owned map was made.
+fn fills_and_owns<R: Abort + Wait>(rt: &R, memory: Memory) -> (u64, bool) {
     let map = map_with_room(memory, 1000).expect(rt, "memory for the map");
-    fill(rt, &map, 1000);
-    let asked = memory.requests();
-    memory.refuse_nothing();
-    if is_owned_again(rt, map) {
-        Some((asked, memory.requests()))
-    } else {
-        None
-    }
+    let asked = requests_up_to_here(rt, memory, &map);
+    (asked, is_owned_again(rt, map))
 }
 
 // A map with room for a thousand pairs asks for no further table, nor does the owned one that it becomes.
 #[test]
-fn room_is_made_once(rt: HostRuntime) -> Result<(), Fail> {
-    let memory = MeteredAlloc::leak(rt.alloc())?;
-    let asked = requests_with_room(&rt, memory);
-    assert_same(&rt, asked, Some((3002, 1001)));
-    Ok(())
+fn room_is_made_once(rt: HostRuntime) {
+    let memory = MeteredAlloc::leak(rt.alloc()).expect(&rt, "memory for the allocator");
+    let seen = fills_and_owns(&rt, memory);
+    assert_same(&rt, (seen, memory.requests()), ((3002, true), 1001));
 }
 
 // Large tables are made, where there is memory.
 #[test]
-fn much_room(rt: HostRuntime) -> Result<(), Fail> {
-    let map: HashMap<u64, u64> = HashMap::with_capacity(rt.alloc(), 5000)?;
-    map.reserve(&rt, 40_000)?;
+fn much_room(rt: HostRuntime) {
+    let map: HashMap<u64, u64> = HashMap::with_capacity(rt.alloc(), 5000).expect(&rt, "memory");
+    map.reserve(&rt, 40_000).expect(&rt, "memory");
     assert_same(&rt, map.len(&rt), 0);
-    Ok(())
 }

@@ -1,0 +1,14 @@
+//! The tests by topic, and what they share.
+
+mod par;
+mod recorded;
+mod sorted;
+
+use std::fmt::Debug;
+use std::process::Abort;
+
+// Asserts that a value is the expected one. A test with many assertions calls this, because each `assert_eq!` in its own body makes its
+// proof longer.
+fn assert_same<T: PartialEq + Debug + Drop>(rt: &impl Abort, seen: T, wanted: T) {
+    assert_eq!(rt; seen, wanted);
+}
