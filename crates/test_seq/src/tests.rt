@@ -9,9 +9,12 @@ mod keys;
 mod large;
 mod memory;
 mod pairs;
+mod par;
+mod recorded;
 mod retain;
 mod sets;
 mod shapes;
+mod sorted;
 mod steps;
 
 use std::alloc::{Allocator, Global};

@@ -2,18 +2,24 @@
 
 mod calls;
 mod change;
+mod locks;
+mod memo;
 mod order;
 mod owned;
+mod par;
 mod refused;
 mod removals;
 mod rows;
+mod set;
+mod sorted;
 mod sweeps;
+mod texts;
 mod threads;
 mod workers;
 
 use flurry_base::hash::KeyHasher;
 use flurry_shared::HashMap;
-use std::alloc::AllocError;
+use std::alloc::{AllocError, Allocator};
 use std::fmt::Debug;
 use std::process::Abort;
 use std::sync::{Arc, Wait};
@@ -28,7 +34,7 @@ fn assert_same<T: PartialEq + Debug + Drop>(rt: &impl Abort, seen: T, wanted: T)
 }
 
 // Returns the number in a value that a call returned.
-fn taken(value: Option<Arc<u64>>) -> Option<u64> {
+fn taken<A: Allocator>(value: Option<Arc<u64, A>>) -> Option<u64> {
     value.map(|value| *value)
 }
 

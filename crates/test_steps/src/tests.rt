@@ -1,5 +1,6 @@
 //! The tests by topic, and what they share.
 
+mod bins;
 mod control;
 mod cursor;
 mod first_steps;

@@ -2,6 +2,7 @@
 
 mod calls;
 mod checker;
+mod driven;
 mod drops;
 mod random;
 mod rows;

@@ -1,0 +1,135 @@
+//! Maps and sets that are built in parallel, and joined.
+
+mod at_once;
+mod refused;
+
+use super::{assert_same, lent};
+use flurry_base::hash::{LowHashBuilder, ZeroHashBuilder};
+use flurry_seq::SeqMap;
+use flurry_seq_par::{map, set};
+use flurry_seq_set::SeqSet;
+use std::alloc::Allocator;
+use std::fmt::Debug;
+use std::process::Abort;
+use std::sync::Arc;
+use std::thread::Threads;
+
+// A map of numbers.
+type Numbers = SeqMap<u64, u64, LowHashBuilder>;
+
+// Returns a hundred pairs: the keys from 100 on, each with ten times its distance from 100.
+fn pairs(rt: &(impl Abort + AllocGlobal)) -> Vec<(u64, u64)> {
+    let mut list = Vec::new(rt.alloc());
+    for i in 0..100u64 {
+        list.push((i + 100, i * 10)).expect(rt, "memory");
+    }
+    list
+}
+
+// Returns the map of three pairs, two of which have one key, built from pieces of the length `part`.
+fn doubled(rt: &(impl Abort + AllocGlobal + Threads + Sync), part: usize) -> Numbers {
+    let list = Vec::from_array(rt.alloc(), [(1, 10), (2, 20), (1, 30)]).expect(rt, "memory");
+    map::from_par_list(rt, rt.alloc(), list, LowHashBuilder, part).expect(rt, "memory")
+}
+
+// Asserts that the map has two pairs, and the last value of the key that came twice.
+fn has_the_last(rt: &impl Abort, map: &Numbers) {
+    assert_same(rt, map.len(), 2);
+    assert_same(
+        rt,
+        (lent(map.get(&1)), lent(map.get(&2))),
+        (Some(30), Some(20)),
+    );
+}
+
+// Of a key that comes twice, the last value is stored, for any length of a piece. A length of 0 counts as 1.
+#[test]
+fn row_10(rt: HostRuntime) {
+    let one = doubled(&rt, 1);
+    has_the_last(&rt, &one);
+    for part in [0, 2, 3, usize::MAX] {
+        let map = doubled(&rt, part);
+        has_the_last(&rt, &map);
+        assert_same(&rt, map == one, true);
+    }
+}
+
+#[test]
+fn a_hundred_pairs(rt: HostRuntime) {
+    let built = map::from_par_list(&rt, rt.alloc(), pairs(&rt), LowHashBuilder, 7).expect(
+        &rt, "memory",
+    );
+    assert_same(&rt, built.len(), 100);
+    assert_same(
+        &rt,
+        (lent(built.get(&100)), lent(built.get(&199))),
+        (Some(0), Some(990)),
+    );
+}
+
+#[test]
+fn pairs_into_a_map(rt: HostRuntime) {
+    let list = Vec::from_array(rt.alloc(), [(1u64, 2u64), (3, 4)]).expect(&rt, "memory");
+    let mut map = SeqMap::from_list(rt.alloc(), list, LowHashBuilder).expect(&rt, "memory");
+    map::par_extend(&rt, &mut map, Vec::new(rt.alloc()), 7).expect(&rt, "memory");
+    assert_same(&rt, map.len(), 2);
+    map::par_extend(&rt, &mut map, pairs(&rt), 7).expect(&rt, "memory");
+    assert_same(&rt, map.len(), 102);
+    assert_same(
+        &rt,
+        (lent(map.get(&3)), lent(map.get(&199))),
+        (Some(4), Some(990)),
+    );
+}
+
+// A key that compares, equals and hashes by its `id` alone.
+#[derive(Clone, Copy)]
+#[derive_where(Debug, PartialEq, Eq, PartialOrd, Ord, Hash)]
+struct Tagged {
+    id: u64,
+    #[derive_where(skip(EqHashOrd))]
+    tag: u64,
+}
+
+// For a class that both maps have, the key of the left map stays, and the value of the right map is stored.
+#[test]
+fn joined(rt: HostRuntime) {
+    let (first, second) = (Tagged { id: 1, tag: 10 }, Tagged { id: 1, tag: 20 });
+    let mut left = SeqMap::with_hasher(rt.alloc(), ZeroHashBuilder);
+    let _ = left.insert(first, 1u64).expect(&rt, "memory");
+    let mut right = SeqMap::with_hasher(rt.alloc(), ZeroHashBuilder);
+    let _ = right.insert(second, 2).expect(&rt, "memory");
+    let _ = right
+        .insert(Tagged { id: 2, tag: 30 }, 3)
+        .expect(&rt, "memory");
+    map::join(&mut left, right).expect(&rt, "memory");
+    assert_same(&rt, left.len(), 2);
+    let (key, value) = left
+        .get_key_value(&second)
+        .expect(&rt, "the key is present");
+    assert_same(&rt, (key.tag, **value), (10, 2));
+}
+
+#[test]
+fn sets_of_pairs(rt: HostRuntime) {
+    let mut built: SeqSet<(u64, u64), ZeroHashBuilder> = set::from_par_list(
+        &rt,
+        rt.alloc(),
+        pairs(&rt),
+        ZeroHashBuilder,
+        7,
+    ).expect(&rt, "memory");
+    assert_same(&rt, built.len(), 100);
+    assert_same(
+        &rt,
+        (built.contains(&(100, 0)), built.contains(&(100, 10000))),
+        (true, false),
+    );
+    let more = Vec::from_array(rt.alloc(), [(100, 0), (100, 10000)]).expect(&rt, "memory");
+    set::par_extend(&rt, &mut built, more, 1).expect(&rt, "memory");
+    assert_same(
+        &rt,
+        (built.len(), built.contains(&(100, 10000))),
+        (101, true),
+    );
+}

@@ -1,4 +1,0 @@
-use Rattle.test_steps_drive.proofs.beside.beside_is_exclusive.Goals as goal
-
-pub returns : goal.returns
-returns g c = record { places = λ r e live ok r' h. h; lends_own = λ s l s' h. h; lacks_only = λ s p h. h }

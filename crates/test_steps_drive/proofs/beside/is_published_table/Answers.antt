@@ -1,5 +1,0 @@
-use Rattle.std.proofs.Common.{rules}
-use Rattle.test_steps_drive.proofs.beside.is_published_table.Goals as goal
-
-pub returns-in-Unborn : goal.returns-in-Unborn
-returns-in-Unborn g c = search rules

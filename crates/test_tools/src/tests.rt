@@ -1,0 +1,4 @@
+//! The tests by crate.
+
+mod judge;
+mod metered;
