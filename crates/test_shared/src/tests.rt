@@ -3,17 +3,12 @@
 mod calls;
 mod change;
 mod locks;
-mod memo;
 mod order;
 mod owned;
-mod par;
 mod refused;
 mod removals;
 mod rows;
-mod set;
-mod sorted;
 mod sweeps;
-mod texts;
 mod threads;
 mod workers;
 

@@ -1,6 +1,7 @@
 //! The tests by topic, and what they share.
 
 mod bins;
+mod boards;
 mod control;
 mod cursor;
 mod first_steps;

@@ -40,7 +40,7 @@ enum Call {
     RemoveIf,
     GetOrInsert,
     Get,
-    Reserve,
+    Reserve(usize),
 }
 
 // Returns whether a call succeeded. What it returned is dropped here, since each drop in the body of the calls would make its proof longer.
@@ -66,7 +66,7 @@ fn is_done<A: Allocator + Copy, R: Wait>(rt: &R, map: &Numbers<A>, call: Call) -
         Call::RemoveIf => map.remove_if(rt, &0, |_, _| true).is_some(),
         Call::GetOrInsert => succeeded(map.get_or_insert_with(rt, 99, |_| 1)),
         Call::Get => succeeded(map.get(rt, &0)),
-        Call::Reserve => succeeded(map.reserve(rt, 100)),
+        Call::Reserve(pairs) => succeeded(map.reserve(rt, pairs)),
     }
 }
 
@@ -84,22 +84,30 @@ fn numbers<A: Allocator + Copy, R: Abort + Wait>(rt: &R, alloc: A, count: u64) -
     map
 }
 
-// Makes the call while the request numbered `k` fails, on a map of `keys` keys in this memory. Returns whether that request was made,
-// whether the call succeeded, whether the earlier pairs are present, and the number of pairs.
+// What a call did while a request failed: whether that request was made, whether the call succeeded, whether the earlier pairs are present,
+// and the number of pairs; and then, made again with memory: whether it succeeded, and how many requests it made.
+type Seen = ((bool, bool, bool, usize), (bool, u64));
+
+// Makes the call while the request numbered `k` fails, and again, on a map of `keys` keys in this memory.
 fn refuse_in<A: Allocator + Copy, R: Wait>(
     rt: &R,
-    memory: &MeteredAlloc<Global>,
+    metered: &MeteredAlloc<Global>,
     k: u64,
     map: &Numbers<A>,
     keys: u64,
     call: Call,
-) -> (bool, bool, bool, usize) {
-    memory.refuse_at(k);
+) -> Seen {
+    metered.refuse_at(k);
     let done = is_done(rt, map, call);
-    let refused = memory.was_refused();
-    memory.refuse_nothing();
+    let refused = metered.was_refused();
     let stand = count_own(rt, map, 0, keys) == keys;
-    (refused, done, stand, map.len(rt))
+    let len = map.len(rt);
+    metered.refuse_nothing();
+    let done_again = is_done(rt, map, call);
+    (
+        (refused, done, stand, len),
+        (done_again, metered.requests()),
+    )
 }
 
 // Does the same as `refuse_in`, on a map that is created for the call.
@@ -108,18 +116,20 @@ fn call_without<R: Abort + Wait>(
     memory: Memory,
     (keys, call): (u64, Call),
     k: u64,
-) -> (bool, bool, bool, usize) {
+) -> Seen {
     refuse_in(rt, memory, k, &numbers(rt, memory, keys), keys, call)
 }
 
-// Makes each of `requests` requests of the call fail in turn, on a map of `keys` keys: the call fails, and the pairs stay.
+// Makes each of `requests` requests of the call fail in turn, on a map of `keys` keys: the call fails, and the pairs stay. Made again, it
+// succeeds.
 fn refuse_each<R: Abort + Wait>(rt: &R, memory: Memory, (keys, call): (u64, Call), requests: u64) {
     for k in 0..requests {
-        let seen = call_without(rt, memory, (keys, call), k);
-        assert_same(rt, (k, seen), (k, (true, false, true, keys as usize)));
+        let (seen, (done_again, _)) = call_without(rt, memory, (keys, call), k);
+        let wanted = (true, false, true, keys as usize);
+        assert_same(rt, (k, seen, done_again), (k, wanted, true));
         assert_same(rt, memory.live_blocks(), 0);
     }
-    let (refused, done, _, _) = call_without(rt, memory, (keys, call), requests);
+    let ((refused, done, _, _), _) = call_without(rt, memory, (keys, call), requests);
     assert_same(rt, (refused, done), (false, true));
 }
 
@@ -137,8 +147,8 @@ fn each_request_of_a_call(rt: HostRuntime) {
         (0, Call::Compute, 0),
         (1, Call::Compute, 1),
         (1, Call::Get, 0),
-        (0, Call::Reserve, 9),
-        (1, Call::Reserve, 35),
+        (0, Call::Reserve(100), 9),
+        (1, Call::Reserve(100), 35),
     ] {
         refuse_each(&rt, memory, (keys, call), requests);
     }
@@ -176,29 +186,9 @@ fn each_request_of_a_call_by_a_function(rt: HostRuntime) {
 fn a_larger_table_of_an_insertion(rt: HostRuntime) {
     let memory = MeteredAlloc::leak(rt.alloc()).expect(&rt, "memory for the allocator");
     for k in 3..10u64 {
-        let seen = call_without(&rt, memory, (11, Call::Insert), k);
+        let (seen, _) = call_without(&rt, memory, (11, Call::Insert), k);
         assert_same(&rt, (k, seen), (k, (true, true, true, 12)));
     }
-}
-
-// Makes room for another pair while the request numbered `k` fails, and then with memory. Returns whether the first attempt failed and the
-// second one succeeded, and how many requests the second one made.
-fn requests_after<A: Allocator + Copy, R: Wait>(
-    rt: &R,
-    memory: &MeteredAlloc<Global>,
-    k: u64,
-    map: &Numbers<A>,
-) -> (bool, u64) {
-    memory.refuse_at(k);
-    let refused = map.reserve(rt, 1).is_err();
-    memory.refuse_nothing();
-    let done = map.reserve(rt, 1).is_ok();
-    (refused && done, memory.requests())
-}
-
-// Does the same as `requests_after`, on a map of eleven keys in 16 bins that is created for the call.
-fn requests_after_a_refusal<R: Abort + Wait>(rt: &R, memory: Memory, k: u64) -> (bool, u64) {
-    requests_after(rt, memory, k, &numbers(rt, memory, 11))
 }
 
 // Two growths, to 32 and to 64 bins, take seven requests each. A growth that is refused leaves neither a table nor a board nor seats: the
@@ -208,8 +198,9 @@ fn a_refused_growth_leaves_nothing(rt: HostRuntime) {
     let memory = MeteredAlloc::leak(rt.alloc()).expect(&rt, "memory for the allocator");
     for k in 0..14u64 {
         let asked = if k < 7 { 14 } else { 7 };
-        let seen = requests_after_a_refusal(&rt, memory, k);
-        assert_same(&rt, (k, seen), (k, (true, asked)));
+        let (seen, again) = call_without(&rt, memory, (11, Call::Reserve(1)), k);
+        assert_same(&rt, (k, seen), (k, (true, false, true, 11)));
+        assert_same(&rt, (k, again), (k, (true, asked)));
     }
 }
 

@@ -57,8 +57,10 @@ fn count_there<A: Allocator + Copy, R: Abort + Wait>(rt: &R, map: &Numbers<A>) -
     there
 }
 
-// Makes the call while the request numbered `k` fails, of a map and a list in this memory. Returns whether the request was made, whether
-// the call succeeded, and the number of pairs afterwards.
+// What a call did: whether a request failed, whether the call succeeded, the number of pairs afterwards, and how many requests it made.
+type Seen = (bool, bool, usize, u64);
+
+// Makes the call while the request numbered `k` fails, of a map and a list in this memory.
 fn refuse_in<A: Allocator + Copy, R: Abort + Wait>(
     rt: &R,
     metered: &MeteredAlloc<Global>,
@@ -66,43 +68,44 @@ fn refuse_in<A: Allocator + Copy, R: Abort + Wait>(
     map: &Numbers<A>,
     list: Vec<(u64, u64), A>,
     call: Call,
-) -> (bool, bool, usize) {
+) -> Seen {
     metered.refuse_at(k);
     let done = is_done(rt, map, list, call);
-    let refused = metered.was_refused();
+    let (refused, requests) = (metered.was_refused(), metered.requests());
     metered.refuse_nothing();
-    (refused, done, count_there(rt, map))
+    (refused, done, count_there(rt, map), requests)
 }
 
-// Does the same as `refuse_in`, with a map of the keys 0 to 2 and a list of the keys 10 to 12.
+// Does the same as `refuse_in`, with a map of the keys below `pairs`, and a list of `others` greater keys.
 fn call_without<R: Abort + Wait>(
     rt: &R,
     memory: Memory,
+    (pairs, others): (u64, u64),
     call: Call,
     k: u64,
-) -> (bool, bool, usize) {
-    let list = list(rt, memory, (10, 13, 0));
-    refuse_in(rt, memory, k, &numbers(rt, memory, 3), list, call)
+) -> Seen {
+    let list = list(rt, memory, (1000, others.saturating_add(1000), 0));
+    refuse_in(rt, memory, k, &numbers(rt, memory, pairs), list, call)
 }
 
-// Makes each of `requests` requests fail in turn: the call then fails, and leaves three pairs. If no request fails, it leaves `left` pairs.
+// Makes the call of a map of three pairs and a list of three more, while each of `requests` requests fails in turn: the call then fails,
+// and leaves three pairs. If no request fails, it leaves `left` pairs.
 fn refuse_each<R: Abort + Wait>(
     rt: &R,
     memory: Memory,
     (call, requests, left): (Call, u64, usize),
 ) {
-    for k in 0..requests {
-        let seen = call_without(rt, memory, call, k);
-        assert_same(rt, (call, k, seen), (call, k, (true, false, 3)));
+    for k in 0..requests.saturating_add(1) {
+        let (refused, done, count, _) = call_without(rt, memory, (3, 3), call, k);
+        let seen = (refused, done, count);
+        let wanted = if k < requests {
+            (true, false, 3)
+        } else {
+            (false, true, left)
+        };
+        assert_same(rt, (call, k, seen), (call, k, wanted));
         assert_same(rt, memory.live_blocks(), 0);
     }
-    let seen = call_without(rt, memory, call, requests);
-    assert_same(
-        rt,
-        (call, requests, seen),
-        (call, requests, (false, true, left)),
-    );
-    assert_same(rt, memory.live_blocks(), 0);
 }
 
 // The first seven make no request. The requests of the others are for a table and its slots, and three for each pair. A clone of a map
@@ -129,40 +132,12 @@ fn each_request_of_a_call(rt: HostRuntime) {
 #[test]
 fn an_extension(rt: HostRuntime) {
     let memory = MeteredAlloc::leak(rt.alloc()).expect(&rt, "memory for the allocator");
-    for k in 0..9u64 {
-        let seen = call_without(&rt, memory, Call::Extend, k);
-        assert_same(&rt, (k, seen), (k, (true, false, 3 + k as usize / 3)));
+    for k in 0..10u64 {
+        let (refused, done, count, _) = call_without(&rt, memory, (3, 3), Call::Extend, k);
+        let seen = (refused, done, count);
+        assert_same(&rt, (k, seen), (k, (k < 9, k == 9, 3 + k as usize / 3)));
         assert_same(&rt, memory.live_blocks(), 0);
     }
-    assert_same(
-        &rt,
-        call_without(&rt, memory, Call::Extend, 9),
-        (false, true, 6),
-    );
-}
-
-// Makes the call, of a map or of a list in this memory. Returns whether it succeeded, and how many requests it made.
-fn asked_in<A: Allocator + Copy, R: Wait>(
-    rt: &R,
-    metered: &MeteredAlloc<Global>,
-    map: &Numbers<A>,
-    list: Vec<(u64, u64), A>,
-    call: Call,
-) -> (bool, u64) {
-    metered.refuse_nothing();
-    let done = is_done(rt, map, list, call);
-    (done, metered.requests())
-}
-
-// Does the same as `asked_in`, with a map of the keys below `pairs` and a list of `others` greater keys.
-fn asked_by<R: Abort + Wait>(
-    rt: &R,
-    memory: Memory,
-    (pairs, others): (u64, u64),
-    call: Call,
-) -> (bool, u64) {
-    let list = list(rt, memory, (100, others.saturating_add(100), 0));
-    asked_in(rt, memory, &numbers(rt, memory, pairs), list, call)
 }
 
 // Room is made first: a hundred pairs ask for the tables of that room, one of them by a growth with its board and seats, and for three
@@ -171,13 +146,13 @@ fn asked_by<R: Abort + Wait>(
 #[test]
 fn room_is_made_first(rt: HostRuntime) {
     let memory = MeteredAlloc::leak(rt.alloc()).expect(&rt, "memory for the allocator");
-    for (sizes, call, requests) in [
-        ((0, 100), Call::FromList, 302),
-        ((100, 0), Call::TryClone, 103),
-        ((0, 100), Call::Extend, 309),
-        ((1, 8), Call::Extend, 24),
+    for (sizes, call, pairs, requests) in [
+        ((0, 100), Call::FromList, 0, 302),
+        ((100, 0), Call::TryClone, 100, 103),
+        ((0, 100), Call::Extend, 100, 309),
+        ((1, 8), Call::Extend, 9, 24),
     ] {
-        let asked = asked_by(&rt, memory, sizes, call);
-        assert_same(&rt, (call, asked), (call, (true, requests)));
+        let seen = call_without(&rt, memory, sizes, call, u64::MAX);
+        assert_same(&rt, (call, seen), (call, (false, true, pairs, requests)));
     }
 }

@@ -93,53 +93,68 @@ fn a_bin_that_grows_by_insertions(rt: HostRuntime) {
     );
 }
 
+// Asserts that a bin has the shape, the value of the key and the live blocks that it had, and its `count` even keys.
+fn stands<A: Allocator>(
+    rt: &impl Abort,
+    metered: &MeteredAlloc<Global>,
+    bin: &Bin<u64, u64, A>,
+    (count, key): (u64, u64),
+    before: (Shape, Option<u64>, u64),
+) {
+    let now = (bin.shape(), value_at(bin, key), metered.live_blocks());
+    assert_same(rt, now, before);
+    for i in 0..count {
+        let even = i.wrapping_mul(2);
+        assert_same(rt, value_at(bin, even), Some(even));
+    }
+}
+
 // Inserts a key into a bin of `count` even keys, where the request numbered `k` fails, and returns whether that request was made. If it
 // was, the bin is unchanged.
-fn refused<A: Allocator + Copy>(
+fn refused_in<A: Allocator + Copy>(
     rt: &impl Abort,
     metered: &MeteredAlloc<Global>,
     memory: A,
+    bin: &mut Bin<u64, u64, A>,
     (count, key, k): (u64, u64, u64),
 ) -> bool {
-    let mut bin = bin_of(memory, count, 64).expect(rt, "memory for the bin");
-    let before = (bin.shape(), value_at(&bin, key), metered.live_blocks());
+    let before = (bin.shape(), value_at(bin, key), metered.live_blocks());
     metered.refuse_at(k);
-    let reply = insert(&mut bin, memory, key, 1000, 64);
+    let reply = insert(bin, memory, key, 1000, 64);
     let refused = metered.was_refused();
     metered.refuse_nothing();
     if refused {
         assert_same(rt, reply.is_err(), true);
-        assert_same(
-            rt,
-            (bin.shape(), value_at(&bin, key), metered.live_blocks()),
-            before,
-        );
-        for i in 0..count {
-            let even = i.wrapping_mul(2);
-            assert_same(rt, value_at(&bin, even), Some(even));
-        }
+        stands(rt, metered, bin, (count, key), before);
     } else {
         assert_same(rt, reply.ok(), Some((before.1, false)));
-        assert_same(rt, value_at(&bin, key), Some(1000));
+        assert_same(rt, value_at(bin, key), Some(1000));
     }
     refused
 }
 
-// Each request of an insertion fails in turn: there are three for an absent key, and one for a present one.
+// Makes the requests of an insertion into a bin of `count` even keys fail in turn. There are `requests` of them.
+fn refuse_each<A: Allocator + Copy>(
+    rt: &impl Abort,
+    metered: &MeteredAlloc<Global>,
+    memory: A,
+    (count, key, requests): (u64, u64, u64),
+) {
+    for k in 0..4u64 {
+        let mut bin = bin_of(memory, count, 64).expect(rt, "memory for the bin");
+        let refused = refused_in(rt, metered, memory, &mut bin, (count, key, k));
+        assert_same(rt, (count, key, k, refused), (count, key, k, k < requests));
+    }
+    assert_same(rt, metered.live_blocks(), 0);
+}
+
+// There are three requests for an absent key, and one for a present one.
 #[test]
 fn refused_insertions(rt: HostRuntime) {
     let memory = MeteredAlloc::leak(rt.alloc()).expect(&rt, "memory for the allocator");
     for count in [0u64, 1, 2, 8, 9, 30] {
-        for key in [1u64, 4] {
-            let wanted = if key == 4 && count > 2 { 1u64 } else { 3 };
-            for k in 0u64..4 {
-                assert_same(
-                    &rt,
-                    refused(&rt, memory, memory, (count, key, k)),
-                    k < wanted,
-                );
-            }
-        }
+        refuse_each(&rt, memory, memory, (count, 1, 3));
+        let requests = if count > 2 { 1 } else { 3 };
+        refuse_each(&rt, memory, memory, (count, 4, requests));
     }
-    assert_same(&rt, memory.live_blocks(), 0);
 }

@@ -96,12 +96,14 @@ fn list_of_eight_grows_before_the_count(rt: HostRuntime) {
     drop(map);
 }
 
-// A reserve moves one bin of a table of 64, and then others meet its growth.
-#[test]
-fn insertion_helps(rt: HostRuntime) {
-    let mut map = empty_map(rt.alloc(), 2, 0);
+// Opens a table of 64 bins.
+fn opens_sixty_four(rt: &impl Abort, map: &mut Map) {
     let table = map.control.open(6, &mut map.tables);
-    assert_same(&rt, table.expect(&rt, "memory for the table"), 6);
+    assert_same(rt, table.expect(rt, "memory for the table"), 6);
+}
+
+// Runs a reserve that moves one bin of a table of 64, where others then meet its growth.
+fn others_meet_a_growth(rt: &(impl Abort + AllocGlobal), map: &mut Map) {
     let finds_nothing = [
         Event::Silent,
         Event::Silent,
@@ -124,6 +126,13 @@ fn insertion_helps(rt: HostRuntime) {
         Act::Map(Row::Table(Some(7))),
         Act::Map(Row::Replies(2, OwnedCall::Get(2), value(Some(0)))),
     ];
-    follows(&rt, &mut map, 0, OwnedCall::Reserve(31), &acts);
+    follows(rt, map, 0, OwnedCall::Reserve(31), &acts);
+}
+
+#[test]
+fn insertion_helps(rt: HostRuntime) {
+    let mut map = empty_map(rt.alloc(), 2, 0);
+    opens_sixty_four(&rt, &mut map);
+    others_meet_a_growth(&rt, &mut map);
     drop(map);
 }

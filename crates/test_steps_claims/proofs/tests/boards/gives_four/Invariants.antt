@@ -1,5 +1,0 @@
-use Rattle.flurry_steps_claims.specs.ClaimBoard.{IsSeatOf}
-use Rattle.test_steps_claims.proofs.tests.boards.gives_four.Given as goal
-
-abbrev pub invariant-loop-wanted : goal.invariant-loop-wanted
-invariant-loop-wanted g l = IsSeatOf l.board l.seat

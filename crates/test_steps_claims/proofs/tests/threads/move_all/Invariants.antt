@@ -1,5 +1,0 @@
-use Rattle.flurry_steps_claims.specs.ClaimBoard.{IsSeatOf}
-use Rattle.test_steps_claims.proofs.tests.threads.move_all.Given as goal
-
-abbrev pub invariant-loop : goal.invariant-loop
-invariant-loop l = IsSeatOf l.board l.seat
