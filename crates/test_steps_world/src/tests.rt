@@ -1,21 +1,25 @@
-//! Worlds of numbers: worked schedules, each call once, and random schedules whose labels are checked.
+//! Worlds of numbers: worked schedules, each call once, random schedules whose labels are checked, driven calls, and requests for memory
+//! that fail; and what the tests share.
+ghost use Rattle.std.specs.Prelude.{◌≡◌, ⊤};
+ghost use Rattle.flurry_base.specs.Verdicts.{verdict_of};
 
 mod calls;
 mod checker;
 mod driven;
 mod drops;
+mod memory;
 mod random;
 mod rows;
 mod sweeps;
 
 use flurry_base::hash::LowHashBuilder;
 use flurry_base::reply::KeptReply;
-use flurry_bins_slots::ComputeFn;
+use flurry_bins_slots::{ComputeFn, Verdict};
 use flurry_steps::party::OwnedCall;
 use flurry_steps_theory::Label;
 use flurry_steps_world::world::World;
 use std::alloc::Global;
-use std::fmt::Debug;
+use std::fmt::{Debug, Display};
 use std::process::Abort;
 
 /// A world in which the hash of each key is the key.
@@ -42,6 +46,35 @@ enum Line {
 // proof longer.
 fn assert_same<T: PartialEq + Debug + Drop>(rt: &impl Abort, seen: T, wanted: T) {
     assert_eq!(rt; seen, wanted);
+}
+
+// Asserts that a value is the expected one. A failure also reports `at`.
+fn assert_same_at<T: PartialEq + Debug + Drop>(
+    rt: &impl Abort,
+    at: impl Display + Drop,
+    seen: T,
+    wanted: T,
+) {
+    assert_eq!(rt; seen, wanted, "at {at}");
+}
+
+// A function that sets this value, or that removes the pair, at any key.
+#[derive(Clone, Copy)]
+struct Becomes(Option<u64>);
+
+impl ComputeFn<u64, u64> for Becomes {
+    ghost can_change = { λ _. ⊤ };
+
+    ghost never_keeps = { λ _. ⊤ };
+
+    ghost changes = { λ f _ _ v. v ≡ verdict_of f.0 };
+
+    fn change<'a>(self, _key: &'a u64, _value: Option<&'a u64>) -> Verdict<u64> {
+        match self.0 {
+            Some(value) => Verdict::Set(value),
+            None => Verdict::Remove,
+        }
+    }
 }
 
 fn line_of<F>(label: &Label<u64, u64, F>) -> Line {
@@ -74,6 +107,19 @@ fn last_line<'k, F: ComputeFn<u64, u64> + Copy>(rt: &impl Abort, world: &Numbers
 // Returns the reply of a value, or of `None`.
 fn value(value: Option<u64>) -> KeptReply<u64, u64> {
     KeptReply::Value(value)
+}
+
+// How a call closes.
+#[derive(Clone, Copy, Debug, PartialEq, Eq)]
+enum Close {
+    Reply(KeptReply<u64, u64>),
+    End,
+    Refused,
+}
+
+// Returns how a call closes that replies with a value, or with `None`.
+fn closes_with(value: Option<u64>) -> Close {
+    Close::Reply(KeptReply::Value(value))
 }
 
 // Returns a world with room for `capacity` pairs.

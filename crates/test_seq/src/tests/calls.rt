@@ -279,11 +279,26 @@ fn removing_calls_as_values(rt: HostRuntime) {
     assert_same(&rt, lent(map.get(&5)), Some(50));
 }
 
+// Returns the map of three pairs, in which the key 3 has another value.
+fn three_other_pairs(rt: &(impl Abort + AllocGlobal)) -> SeqMap<u64, u64, LowHashBuilder> {
+    let mut map = three_pairs(rt, rt.alloc());
+    run(rt, &mut map, &[Step::Insert(3, 8, Some(30))]);
+    map
+}
+
+// Asserts that a reply is a map of the three pairs.
+fn is_three_pairs(
+    rt: &(impl Abort + AllocGlobal),
+    reply: Option<&Reply<u64, u64, LowHashBuilder>>,
+) {
+    let Some(Reply::Map(copy)) = reply else {
+        panic!(rt; "the reply is a map");
+    };
+    assert_same(rt, *copy == three_pairs(rt, rt.alloc()), true);
+}
+
 #[test]
 fn reading_calls_as_values(rt: HostRuntime) {
-    let mut other = three_pairs(&rt, rt.alloc());
-    run(&rt, &mut other, &[Step::Insert(3, 8, Some(30))]);
-    let equal = three_pairs(&rt, rt.alloc());
     let calls = queue_of(
         &rt,
         rt.alloc(),
@@ -293,8 +308,8 @@ fn reading_calls_as_values(rt: HostRuntime) {
             Call::Pairs,
             Call::Keys,
             Call::Values,
-            Call::Equals(equal),
-            Call::Equals(other),
+            Call::Equals(three_pairs(&rt, rt.alloc())),
+            Call::Equals(three_other_pairs(&rt)),
             Call::TryClone,
             Call::Remove(2),
             Call::Len,
@@ -307,8 +322,5 @@ fn reading_calls_as_values(rt: HostRuntime) {
     let want =
         "List(1)\nEmpty\npairs 1 10 2 20 3 30\nkeys 1 2 3\nvalues 10 20 30\ntrue\nfalse\nmap of 3\nvalue 20\n2\ndone\nno value\n";
     read_as(&rt, replies.as_slice(), want);
-    let Some(Reply::Map(copy)) = replies.get(7) else {
-        panic!(rt; "the eighth reply is a map");
-    };
-    assert_same(&rt, *copy == three_pairs(&rt, rt.alloc()), true);
+    is_three_pairs(&rt, replies.get(7));
 }

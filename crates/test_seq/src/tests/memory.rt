@@ -29,7 +29,7 @@ type NumberMap<S, A> = SeqMap<u64, u64, S, A>;
 const MAX_REQUESTS: u64 = 100;
 
 // A call whose requests fail in turn.
-trait Refused {
+pub(super) trait Refused {
     // Makes the call while the request numbered `k` of this memory fails, checks what it did, and returns whether it made that request.
     fn run_refusing<A: Allocator + Copy>(
         &self,
@@ -46,7 +46,7 @@ fn metered(rt: &impl Abort, alloc: Global) -> Memory {
 }
 
 // Makes each request of a call fail in turn. The call makes at least one request, and every block is deallocated.
-fn refuse_each<C: Refused>(rt: &impl Abort, alloc: Global, call: &C) {
+pub(super) fn refuse_each<C: Refused>(rt: &impl Abort, alloc: Global, call: &C) {
     let memory = metered(rt, alloc);
     for k in 0..MAX_REQUESTS {
         let refused = call.run_refusing(rt, memory, memory, k);

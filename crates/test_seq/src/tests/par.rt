@@ -3,13 +3,13 @@
 mod at_once;
 mod refused;
 
+use super::keys::Tagged;
 use super::{assert_same, lent};
 use flurry_base::hash::{LowHashBuilder, ZeroHashBuilder};
 use flurry_seq::SeqMap;
 use flurry_seq_par::{map, set};
 use flurry_seq_set::SeqSet;
 use std::alloc::Allocator;
-use std::fmt::Debug;
 use std::process::Abort;
 use std::sync::Arc;
 use std::thread::Threads;
@@ -80,15 +80,6 @@ fn pairs_into_a_map(rt: HostRuntime) {
         (lent(map.get(&3)), lent(map.get(&199))),
         (Some(4), Some(990)),
     );
-}
-
-// A key that compares, equals and hashes by its `id` alone.
-#[derive(Clone, Copy)]
-#[derive_where(Debug, PartialEq, Eq, PartialOrd, Ord, Hash)]
-struct Tagged {
-    id: u64,
-    #[derive_where(skip(EqHashOrd))]
-    tag: u64,
 }
 
 // For a class that both maps have, the key of the left map stays, and the value of the right map is stored.

@@ -12,7 +12,7 @@ pub(super) const KEYS: u64 = 32;
 // What is known of a party. In a set of keys, each key is a bit. There are the keys that were present after each label since the party
 // began, the keys that it has read, and the keys that were absent after a label of its own. A walk, and the removal of what it has read,
 // watch the pair that was read last, and whether it was touched since.
-#[derive(Clone, Copy)]
+#[derive(Drop)]
 struct Known<F> {
     call: Call<u64, u64, F>,
     decided: Option<KeptReply<u64, u64>>,

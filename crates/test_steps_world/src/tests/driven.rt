@@ -1,6 +1,4 @@
 //! Calls that are driven to their end.
-ghost use Rattle.std.specs.Prelude.{◌≡◌, ⊤};
-ghost use Rattle.flurry_base.specs.Verdicts.{verdict_of};
 
 mod drops;
 mod each_call;
@@ -8,45 +6,21 @@ mod growth;
 mod refused;
 mod sweeps;
 
-use super::assert_same;
+use super::{Close, assert_same, assert_same_at, closes_with};
 use beside_field::Beside;
 use flurry_base::hash::LowHashBuilder;
 use flurry_base::reply::KeptReply;
-use flurry_bins_slots::{ComputeFn, Verdict};
+use flurry_bins_slots::ComputeFn;
 use flurry_steps::party::{OwnedCall, Reply};
 use flurry_steps::{Field, Party};
 use flurry_steps_drive::drive;
 use flurry_steps_world::{Parts, hash_for};
 use std::alloc::{Allocator, Global};
-use std::fmt::{Debug, Display};
 use std::process::Abort;
 use std::sync::Wait;
 
-// The reply of a call, without the owners of its keys and values.
-#[derive(Clone, Copy, Debug, PartialEq, Eq)]
-enum Plain {
-    OutcomeReply(KeptReply<u64, u64>),
-    Ended,
-    Refused,
-}
-
-// Asserts that a value is the expected one. A failure also reports `at`.
-fn assert_same_at<T: PartialEq + Debug + Drop>(
-    rt: &impl Abort,
-    at: impl Display + Drop,
-    seen: T,
-    wanted: T,
-) {
-    assert_eq!(rt; seen, wanted, "at {at}");
-}
-
-// Returns the reply of a value, or of `None`.
-fn value(value: Option<u64>) -> Plain {
-    Plain::OutcomeReply(KeptReply::Value(value))
-}
-
 // Returns the reply without the owners of its keys and values.
-fn without_owners<A: Allocator>(reply: Reply<u64, u64, A>) -> Plain {
+fn without_owners<A: Allocator>(reply: Reply<u64, u64, A>) -> Close {
     let reply = match reply {
         Reply::Value(None) => KeptReply::Value(None),
         Reply::Value(Some(value)) => KeptReply::Value(Some(*value)),
@@ -62,29 +36,10 @@ fn without_owners<A: Allocator>(reply: Reply<u64, u64, A>) -> Plain {
             current: *error.current,
             not_inserted: error.not_inserted,
         },
-        Reply::Ended => return Plain::Ended,
-        Reply::Refused => return Plain::Refused,
+        Reply::Ended => return Close::End,
+        Reply::Refused => return Close::Refused,
     };
-    Plain::OutcomeReply(reply)
-}
-
-// A function that sets this value, or that removes the pair, at any key.
-#[derive(Clone, Copy)]
-struct Becomes(Option<u64>);
-
-impl ComputeFn<u64, u64> for Becomes {
-    ghost can_change = { λ _. ⊤ };
-
-    ghost never_keeps = { λ _. ⊤ };
-
-    ghost changes = { λ f _ _ v. v ≡ verdict_of f.0 };
-
-    fn change<'a>(self, _key: &'a u64, _value: Option<&'a u64>) -> Verdict<u64> {
-        match self.0 {
-            Some(value) => Verdict::Set(value),
-            None => Verdict::Remove,
-        }
-    }
+    Close::Reply(reply)
 }
 
 // Drives a call whose key is its hash, and returns its reply.
@@ -92,7 +47,7 @@ fn reply_of<F: ComputeFn<u64, u64>, A: Allocator + Copy, X: Field<u64, u64, A>, 
     rt: &R,
     field: &mut X,
     call: OwnedCall<u64, u64, F>,
-) -> Plain
+) -> Close
     requires { (f : F) → F.can_change f × F.never_keeps f }
 {
     let hash = hash_for(&LowHashBuilder, &call);
@@ -106,7 +61,7 @@ fn reply_of<F: ComputeFn<u64, u64>, A: Allocator + Copy, X: Field<u64, u64, A>, 
 #[derive(Clone, Copy)]
 enum Do<F> {
     // A call has this reply.
-    Call(OwnedCall<u64, u64, F>, Plain),
+    Call(OwnedCall<u64, u64, F>, Close),
     // The keys below this number are inserted, each of which is absent, with itself as its value.
     Put(u64),
     // Each key from the first number to the second, without it, has itself as its value.
@@ -144,7 +99,7 @@ fn puts<F: ComputeFn<u64, u64>, A: Allocator + Copy, X: Field<u64, u64, A>, R: W
 {
     for key in 0..end {
         let put: OwnedCall<u64, u64, F> = OwnedCall::Insert(key, key);
-        assert_same_at(rt, at, reply_of(rt, field, put), value(None));
+        assert_same_at(rt, at, reply_of(rt, field, put), closes_with(None));
     }
 }
 
@@ -161,7 +116,7 @@ fn finds<F: ComputeFn<u64, u64>, A: Allocator + Copy, X: Field<u64, u64, A>, R: 
     for key in first..end {
         let found = if there { Some(key) } else { None };
         let look: OwnedCall<u64, u64, F> = OwnedCall::Get(key);
-        assert_same_at(rt, at, reply_of(rt, field, look), value(found));
+        assert_same_at(rt, at, reply_of(rt, field, look), closes_with(found));
     }
 }
 

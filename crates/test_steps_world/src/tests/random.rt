@@ -2,7 +2,7 @@
 ghost use Rattle.std.specs.Prelude.{◌<◌, ⊤};
 
 use super::checker::{Checker, KEYS};
-use super::{Numbers, begin, label_count, world_for};
+use super::{Numbers, assert_same, begin, label_count, world_for};
 use flurry_bins_slots::{ComputeFn, Verdict};
 use flurry_steps::party::OwnedCall;
 use flurry_steps_control::wanted_table;
@@ -112,10 +112,9 @@ impl<'k, F: ComputeFn<u64, u64> + Copy> Checked<'k, F> {
             .world
             .begin_remove_seen(walk)
             .expect(rt, "memory for the call");
-        let has_read = self.checker.has_read(walk);
-        assert_eq!(rt; began.is_some(), has_read);
+        assert_same(rt, began.is_some(), self.checker.has_read(walk));
         if began.is_none() {
-            assert_eq!(rt; label_count(&self.world), labels);
+            assert_same(rt, label_count(&self.world), labels);
             return false;
         }
         self.check_last(rt);
@@ -261,7 +260,7 @@ enum Drawing {
 
 // What schedules did: the number of calls that replied or ended, the number of growths that were published, and the numbers of removals of
 // what a walk had read that found it as it was read, or did not.
-#[derive(Clone, Copy)]
+#[derive(Drop)]
 struct Totals {
     closed: u64,
     growths: u64,

@@ -5,7 +5,6 @@ use std::alloc::{AllocError, Allocator, Global};
 use std::fmt::Debug;
 use std::process::Abort;
 use std::sync::{Arc, RwLock, Wait};
-use std::test::Fail;
 use std::thread;
 use std::thread::Threads;
 
@@ -78,8 +77,8 @@ fn refuses_all(
     numbers: &mut Vec<u8, &MeteredAlloc<Global>>,
 ) {
     assert_same(rt, (memory.requests(), memory.was_refused()), (2, false));
-    assert_same(rt, Box::new(memory, 1u8).is_err(), true);
-    assert_same(rt, Box::new(memory, 1u8).is_err(), true);
+    assert_same(rt, boxed(memory, 1), Err(AllocError));
+    assert_same(rt, boxed(memory, 1), Err(AllocError));
     assert_same(rt, numbers.reserve(100).is_err(), true);
     assert_same(rt, (numbers.len(), memory.was_refused()), (9, true));
 }
@@ -96,13 +95,18 @@ fn all_from_one_on_are_refused(rt: HostRuntime) {
 }
 
 // Creates a `Link`, which takes two requests, while the request numbered `k` fails, and checks what was created.
-fn makes_link(rt: &impl Abort, memory: &MeteredAlloc<Global>, k: u64) {
-    let (answer, refused) = memory.refuse_during(k, || Link::new(memory, 7u64));
+fn makes_link<A: Allocator + Copy>(
+    rt: &impl Abort,
+    metered: &MeteredAlloc<Global>,
+    memory: A,
+    k: u64,
+) {
+    let (answer, refused) = metered.refuse_during(k, || Link::new(memory, 7u64));
     assert_same(rt, (refused, answer.is_err()), (k < 2, k < 2));
     if let Ok(link) = answer {
         assert_same(
             rt,
-            (memory.live_blocks(), memory.live_bytes() > 16),
+            (metered.live_blocks(), metered.live_bytes() > 16),
             (2, true),
         );
         assert_same(rt, (*link.key, link.next.is_some()), (7, true));
@@ -113,7 +117,7 @@ fn makes_link(rt: &impl Abort, memory: &MeteredAlloc<Global>, k: u64) {
 fn a_type_of_ones_own(rt: HostRuntime) {
     let memory = MeteredAlloc::new(rt.alloc());
     for k in 0..3u64 {
-        makes_link(&rt, &memory, k);
+        makes_link(&rt, &memory, &memory, k);
     }
     assert_same(&rt, memory.live_blocks(), 0);
 }
@@ -153,12 +157,12 @@ fn threads_share_it(rt: HostRuntime) {
 }
 
 #[test]
-fn a_leaked_one_goes_to_a_spawned_thread(rt: HostRuntime) -> Result<(), Fail> {
-    let memory = MeteredAlloc::leak(rt.alloc())?;
+fn a_leaked_one_goes_to_a_spawned_thread(rt: HostRuntime) {
+    let memory = MeteredAlloc::leak(rt.alloc()).expect(&rt, "memory for the allocator");
     memory.refuse_at(1);
-    let child = thread::spawn(&rt, move || (boxed(memory, 1), boxed(memory, 2)))?;
-    assert_same(&rt, child.join(&rt), (Ok(1), Err(AllocError)));
-    Ok(())
+    let child = thread::spawn(&rt, move || (boxed(memory, 1), boxed(memory, 2)));
+    let seen = child.expect(&rt, "the thread is started").join(&rt);
+    assert_same(&rt, seen, (Ok(1), Err(AllocError)));
 }
 
 // A shared type that a crate defines itself. The list in its lock and its keys come from one allocator.
@@ -198,13 +202,12 @@ fn one_put<A: Allocator + Copy + Send + Sync, R: Threads + Wait + Sync>(
 }
 
 #[test]
-fn threads_share_a_type_over_it(rt: HostRuntime) -> Result<(), Fail> {
-    let memory = MeteredAlloc::leak(rt.alloc())?;
+fn threads_share_a_type_over_it(rt: HostRuntime) {
+    let memory = MeteredAlloc::leak(rt.alloc()).expect(&rt, "memory for the allocator");
     let shelf: Shelf<u64, &'static MeteredAlloc<Global>> = Shelf::new(memory);
     memory.refuse_at(2);
     let (one, two) = thread::join(&rt, || shelf.put(&rt, 1), || shelf.put(&rt, 2));
     assert_same(&rt, one.is_err() != two.is_err(), true);
     assert_same(&rt, memory.was_refused(), true);
     assert_same(&rt, one_put(&rt, &shelf), Ok(2));
-    Ok(())
 }

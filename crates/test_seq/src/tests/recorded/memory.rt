@@ -1,10 +1,10 @@
 //! A call, a share and the end of a map when memory cannot be allocated.
 
+use super::super::assert_same_at;
 use flurry_base::hash::LowHashBuilder;
 use flurry_seq_recorded::{Book, CloseFault, KeptCall, KeptReply, Recorded, Share};
 use metered_alloc::MeteredAlloc;
 use std::alloc::{Allocator, Global};
-use std::fmt::Debug;
 use std::process::Abort;
 use std::sync::Wait;
 
@@ -18,11 +18,6 @@ type NumberCall = KeptCall<u64, u64>;
 
 // More requests than any call makes.
 const MAX_REQUESTS: u64 = 100;
-
-// Asserts that a value is the expected one after the request numbered `k` has failed.
-fn assert_same_at<T: PartialEq + Debug + Drop>(rt: &impl Abort, k: u64, seen: T, wanted: T) {
-    assert_eq!(rt; seen, wanted, "at {k}");
-}
 
 // Returns a share of a map.
 fn share_of<A: Allocator + Copy, R: Wait + Abort>(rt: &R, map: &Numbers<A>) -> NumberShare<A> {

@@ -1,5 +1,6 @@
 //! Each request for memory fails in turn. A call that fails deallocates all that it has allocated.
 
+use super::super::memory::{Refused, refuse_each};
 use super::assert_same;
 use flurry_base::hash::LowHashBuilder;
 use flurry_seq::SeqMap;
@@ -16,35 +17,6 @@ use std::process::Abort;
 type ListMap<A> = SeqMap<u64, Vec<u64, A>, LowHashBuilder, A>;
 
 type NumberSet<A> = SeqSet<u64, LowHashBuilder, A>;
-
-// More requests than any call makes.
-const MAX_REQUESTS: u64 = 100;
-
-// A call whose requests fail in turn.
-trait Refused {
-    // Makes the call while the request numbered `k` of this memory fails, checks what it did, and returns whether it made that request.
-    fn run_refusing<A: Allocator + Copy>(
-        &self,
-        rt: &impl Abort,
-        metered: &MeteredAlloc<Global>,
-        memory: A,
-        k: u64,
-    ) -> bool;
-}
-
-// Makes each request of a call fail in turn. The call makes at least one request, and every block is deallocated.
-fn refuse_each<C: Refused>(rt: &impl Abort, alloc: Global, call: &C) {
-    let memory = MeteredAlloc::leak(alloc).expect(rt, "memory for the allocator");
-    for k in 0..MAX_REQUESTS {
-        let refused = call.run_refusing(rt, memory, memory, k);
-        assert_same(rt, memory.live_blocks(), 0);
-        if !refused {
-            assert_same(rt, k > 0, true);
-            return;
-        }
-    }
-    panic!(rt; "it makes fewer requests");
-}
 
 // Returns a map of three pairs, in which each value is a list of its key.
 fn lists<A: Allocator + Copy>(rt: &impl Abort, memory: A) -> ListMap<A> {

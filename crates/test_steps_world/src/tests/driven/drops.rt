@@ -1,6 +1,6 @@
 //! Driven removals of the pair that a driven walk read last.
 
-use super::{Plain, assert_same, reply_of, value, without_owners};
+use super::{Close, assert_same, closes_with, reply_of, without_owners};
 use flurry_base::hash::{KeyHasher, LowHashBuilder};
 use flurry_bins_slots::{ComputeFn, NoFn};
 use flurry_steps::Party;
@@ -40,7 +40,7 @@ fn removal<F: ComputeFn<u64, u64>, R: Wait>(
     rt: &R,
     parts: &mut Parts<u64, u64>,
     seen: Seen<u64, u64>,
-) -> Plain {
+) -> Close {
     let hash = LowHashBuilder.hash_one(seen.key());
     let mut party: Party<&u64, u64, u64, F> = Party::new(Call::RemoveSeen(seen), hash, 1);
     let reply = drive(rt, &mut party, parts);
@@ -57,8 +57,8 @@ fn removed<F: ComputeFn<u64, u64>, R: Wait + Abort>(rt: &R, parts: &mut Parts<u6
     let seen = walked::<F, R>(rt, parts);
     let further = seen.try_clone().expect(rt, "memory for the pair");
     assert_same(rt, (*seen.key(), *seen.value()), (5, 2));
-    assert_same(rt, removal::<F, R>(rt, parts, seen), value(Some(2)));
-    assert_same(rt, removal::<F, R>(rt, parts, further), value(None));
+    assert_same(rt, removal::<F, R>(rt, parts, seen), closes_with(Some(2)));
+    assert_same(rt, removal::<F, R>(rt, parts, further), closes_with(None));
     finds::<F, R>(rt, parts, 5, None);
     finds::<F, R>(rt, parts, 3, Some(1));
 }
@@ -70,7 +70,7 @@ fn rewritten<F: ComputeFn<u64, u64>, R: Wait + Abort>(rt: &R, parts: &mut Parts<
     puts::<F, R>(rt, parts, 5, 2, None);
     let seen = walked::<F, R>(rt, parts);
     puts::<F, R>(rt, parts, 5, 2, Some(2));
-    assert_same(rt, removal::<F, R>(rt, parts, seen), value(None));
+    assert_same(rt, removal::<F, R>(rt, parts, seen), closes_with(None));
     finds::<F, R>(rt, parts, 5, Some(2));
 }
 
@@ -85,7 +85,7 @@ fn puts<F: ComputeFn<u64, u64>, R: Wait + Abort>(
     requires { (f : F) → F.can_change f × F.never_keeps f }
 {
     let put: OwnedCall<u64, u64, F> = OwnedCall::Insert(key, new);
-    assert_same(rt, reply_of(rt, parts, put), value(old));
+    assert_same(rt, reply_of(rt, parts, put), closes_with(old));
 }
 
 // Looks a key up, and asserts that this is its value.
@@ -98,7 +98,7 @@ fn finds<F: ComputeFn<u64, u64>, R: Wait + Abort>(
     requires { (f : F) → F.can_change f × F.never_keeps f }
 {
     let look: OwnedCall<u64, u64, F> = OwnedCall::Get(key);
-    assert_same(rt, reply_of(rt, parts, look), value(wanted));
+    assert_same(rt, reply_of(rt, parts, look), closes_with(wanted));
 }
 
 // What is done with the pair that was read.

@@ -1,6 +1,7 @@
 //! Each kind of call, driven over both fields, with its reply and the map after it.
 
-use super::{Becomes, Do, Plain, assert_same, over_a_published_table, over_own_parts, value};
+use super::super::Becomes;
+use super::{Close, Do, assert_same, closes_with, over_a_published_table, over_own_parts};
 use flurry_base::reply::KeptReply;
 use flurry_bins_slots::ComputeFn;
 use flurry_steps::party::OwnedCall;
@@ -38,12 +39,12 @@ fn each_alteration_beside_a_published_table(rt: HostRuntime) {
 
 // Returns both kinds of alteration, at absent and at present keys, on an empty map.
 fn each_alteration() -> [Do<Becomes>; 11] {
-    let absent = Plain::OutcomeReply(KeptReply::Contains(false));
-    let new = Plain::OutcomeReply(KeptReply::New(5));
-    let six = Plain::OutcomeReply(KeptReply::Changed { new: 6, old: 5 });
-    let seven = Plain::OutcomeReply(KeptReply::Changed { new: 7, old: 6 });
-    let had_seven = Plain::OutcomeReply(KeptReply::Pair(Some((3, 7))));
-    let had_five = Plain::OutcomeReply(KeptReply::Pair(Some((3, 5))));
+    let absent = Close::Reply(KeptReply::Contains(false));
+    let new = Close::Reply(KeptReply::New(5));
+    let six = Close::Reply(KeptReply::Changed { new: 6, old: 5 });
+    let seven = Close::Reply(KeptReply::Changed { new: 7, old: 6 });
+    let had_seven = Close::Reply(KeptReply::Pair(Some((3, 7))));
+    let had_five = Close::Reply(KeptReply::Pair(Some((3, 5))));
     [
         Do::Call(OwnedCall::AlterPresent(3, Becomes(Some(5))), absent),
         Do::Call(OwnedCall::Alter(3, Becomes(None)), absent),
@@ -51,51 +52,51 @@ fn each_alteration() -> [Do<Becomes>; 11] {
         Do::Call(OwnedCall::Alter(3, Becomes(Some(6))), six),
         Do::Call(OwnedCall::AlterPresent(3, Becomes(Some(7))), seven),
         Do::Call(OwnedCall::AlterPresent(19, Becomes(Some(7))), absent),
-        Do::Call(OwnedCall::Get(3), value(Some(7))),
+        Do::Call(OwnedCall::Get(3), closes_with(Some(7))),
         Do::Call(OwnedCall::AlterPresent(3, Becomes(None)), had_seven),
         Do::Call(OwnedCall::Alter(3, Becomes(Some(5))), new),
         Do::Call(OwnedCall::Alter(3, Becomes(None)), had_five),
-        Do::Call(OwnedCall::Get(3), value(None)),
+        Do::Call(OwnedCall::Get(3), closes_with(None)),
     ]
 }
 
 // Returns each of the other kinds of call, on an empty map.
 fn each_call<F: ComputeFn<u64, u64> + Copy>(change: F) -> [Do<F>; 22] {
-    let no_pair = Plain::OutcomeReply(KeptReply::Pair(None));
-    let absent = Plain::OutcomeReply(KeptReply::Contains(false));
-    let present = Plain::OutcomeReply(KeptReply::Contains(true));
-    let exists = Plain::OutcomeReply(KeptReply::Exists {
+    let no_pair = Close::Reply(KeptReply::Pair(None));
+    let absent = Close::Reply(KeptReply::Contains(false));
+    let present = Close::Reply(KeptReply::Contains(true));
+    let exists = Close::Reply(KeptReply::Exists {
         current: 6,
         not_inserted: 9,
     });
-    let new = Plain::OutcomeReply(KeptReply::New(7));
-    let three = Plain::OutcomeReply(KeptReply::Pair(Some((3, 8))));
-    let nineteen = Plain::OutcomeReply(KeptReply::Pair(Some((19, 7))));
+    let new = Close::Reply(KeptReply::New(7));
+    let three = Close::Reply(KeptReply::Pair(Some((3, 8))));
+    let nineteen = Close::Reply(KeptReply::Pair(Some((19, 7))));
     [
         // No call finds the key 3, and none of these calls inserts it.
-        Do::Call(OwnedCall::Compute(3, change), value(None)),
-        Do::Call(OwnedCall::Remove(3), value(None)),
+        Do::Call(OwnedCall::Compute(3, change), closes_with(None)),
+        Do::Call(OwnedCall::Remove(3), closes_with(None)),
         Do::Call(OwnedCall::RemoveEntry(3), no_pair),
         Do::Call(OwnedCall::ContainsKey(3), absent),
         Do::Call(OwnedCall::GetKeyValue(3), no_pair),
-        Do::Call(OwnedCall::Get(3), value(None)),
+        Do::Call(OwnedCall::Get(3), closes_with(None)),
         // Afterwards, the keys 3 and 19, which share a bin of 16, have the values 8 and 7.
-        Do::Call(OwnedCall::Insert(3, 5), value(None)),
-        Do::Call(OwnedCall::Insert(3, 6), value(Some(5))),
+        Do::Call(OwnedCall::Insert(3, 5), closes_with(None)),
+        Do::Call(OwnedCall::Insert(3, 6), closes_with(Some(5))),
         Do::Call(OwnedCall::TryInsert(3, 9), exists),
         Do::Call(OwnedCall::TryInsert(19, 7), new),
-        Do::Call(OwnedCall::Compute(3, change), value(Some(8))),
-        Do::Call(OwnedCall::Reserve(40), Plain::Ended),
+        Do::Call(OwnedCall::Compute(3, change), closes_with(Some(8))),
+        Do::Call(OwnedCall::Reserve(40), Close::End),
         Do::Call(OwnedCall::GetKeyValue(3), three),
-        Do::Call(OwnedCall::Get(19), value(Some(7))),
+        Do::Call(OwnedCall::Get(19), closes_with(Some(7))),
         // Both keys are removed again, one of them by its function.
-        Do::Call(OwnedCall::Compute(3, change), value(None)),
+        Do::Call(OwnedCall::Compute(3, change), closes_with(None)),
         Do::Call(OwnedCall::ContainsKey(3), absent),
         Do::Call(OwnedCall::ContainsKey(19), present),
         Do::Call(OwnedCall::RemoveEntry(19), nineteen),
-        Do::Call(OwnedCall::Get(19), value(None)),
-        Do::Call(OwnedCall::Insert(19, 1), value(None)),
-        Do::Call(OwnedCall::Remove(19), value(Some(1))),
-        Do::Call(OwnedCall::Get(19), value(None)),
+        Do::Call(OwnedCall::Get(19), closes_with(None)),
+        Do::Call(OwnedCall::Insert(19, 1), closes_with(None)),
+        Do::Call(OwnedCall::Remove(19), closes_with(Some(1))),
+        Do::Call(OwnedCall::Get(19), closes_with(None)),
     ]
 }

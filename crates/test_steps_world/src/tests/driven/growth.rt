@@ -1,6 +1,6 @@
 //! Many keys, whose calls help the growths that they meet.
 
-use super::{Do, assert_same, over_a_published_table, over_own_parts, value, without_owners};
+use super::{Do, assert_same, closes_with, over_a_published_table, over_own_parts, without_owners};
 use flurry_base::hash::LowHashBuilder;
 use flurry_bins_slots::{ComputeFn, NoFn};
 use flurry_steps::party::OwnedCall;
@@ -31,10 +31,10 @@ fn twice_alone<F: ComputeFn<u64, u64>, R: Wait + Abort>(rt: &R, parts: &mut Part
 {
     let put: OwnedCall<u64, u64, F> = OwnedCall::Insert(7, 1);
     let reply = drive_alone(rt, put, &LowHashBuilder, 1, parts);
-    assert_same(rt, without_owners(reply), value(None));
+    assert_same(rt, without_owners(reply), closes_with(None));
     let look: OwnedCall<u64, u64, F> = OwnedCall::Get(7);
     let reply = drive_alone(rt, look, &LowHashBuilder, 1, parts);
-    assert_same(rt, without_owners(reply), value(Some(1)));
+    assert_same(rt, without_owners(reply), closes_with(Some(1)));
 }
 
 #[test]

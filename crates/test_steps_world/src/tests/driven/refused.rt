@@ -1,6 +1,7 @@
 //! Each request of a driven call that adds a pair fails in turn.
 
-use super::{Becomes, Plain, assert_same, assert_same_at, reply_of, value};
+use super::super::Becomes;
+use super::{Close, assert_same, assert_same_at, closes_with, reply_of};
 use flurry_base::reply::KeptReply;
 use flurry_bins_slots::{ComputeFn, NoFn};
 use flurry_steps::party::OwnedCall;
@@ -18,7 +19,7 @@ fn refused_at<F: ComputeFn<u64, u64>, A: Allocator + Copy, R: Wait + Abort>(
     memory: A,
     call: OwnedCall<u64, u64, F>,
     k: u64,
-) -> (Plain, Plain, bool)
+) -> (Close, Close, bool)
     requires { (f : F) → F.can_change f × F.never_keeps f }
 {
     let mut parts: Parts<u64, u64, A> = Parts::new(memory).expect(rt, "memory for the parts");
@@ -36,15 +37,15 @@ fn refuses_each<F: ComputeFn<u64, u64> + Copy, A: Allocator + Copy, R: Wait + Ab
     metered: &MeteredAlloc<Global>,
     memory: A,
     call: OwnedCall<u64, u64, F>,
-    reply: Plain,
+    reply: Close,
 )
     requires { (f : F) → F.can_change f × F.never_keeps f }
 {
     for k in 0..5u64 {
         let wanted = if k < 4 {
-            (Plain::Refused, value(None), true)
+            (Close::Refused, closes_with(None), true)
         } else {
-            (reply, value(Some(1)), false)
+            (reply, closes_with(Some(1)), false)
         };
         assert_same_at(rt, k, refused_at(rt, metered, memory, call, k), wanted);
         assert_same(rt, metered.live_blocks(), 0);
@@ -55,13 +56,19 @@ fn refuses_each<F: ComputeFn<u64, u64> + Copy, A: Allocator + Copy, R: Wait + Ab
 #[test]
 fn refused_insertions(rt: HostRuntime) {
     let memory = MeteredAlloc::leak(rt.alloc()).expect(&rt, "memory for the allocator");
-    refuses_each::<NoFn, _, _>(&rt, memory, memory, OwnedCall::Insert(7, 1), value(None));
+    refuses_each::<NoFn, _, _>(
+        &rt,
+        memory,
+        memory,
+        OwnedCall::Insert(7, 1),
+        closes_with(None),
+    );
 }
 
 #[test]
 fn refused_alterations(rt: HostRuntime) {
     let memory = MeteredAlloc::leak(rt.alloc()).expect(&rt, "memory for the allocator");
-    let new = Plain::OutcomeReply(KeptReply::New(1));
+    let new = Close::Reply(KeptReply::New(1));
     refuses_each(
         &rt,
         memory,

@@ -1,5 +1,6 @@
 //! Each request of a world's calls fails in turn.
 
+use super::super::{Close, closes_with};
 use super::{Memory, assert_same, assert_same_at};
 use flurry_base::hash::LowHashBuilder;
 use flurry_base::reply::KeptReply;
@@ -18,14 +19,6 @@ pub(super) type Numbers<F, A> = World<'static, u64, u64, F, LowHashBuilder, A>;
 
 // More requests and more steps than any call makes.
 const MOST: u64 = 1000;
-
-// How a call closes.
-#[derive(Clone, Copy, Debug, PartialEq, Eq)]
-pub(super) enum Close {
-    Reply(KeptReply<u64, u64>),
-    End,
-    Refused,
-}
 
 // What the failure of one of its requests did to a call.
 #[derive(Clone, Copy, Debug, PartialEq, Eq)]
@@ -114,11 +107,6 @@ pub(super) fn value<F: ComputeFn<u64, u64> + Copy, A: Allocator + Copy>(
     requires { (f : F) → F.can_change f × F.never_keeps f }
 {
     whole(rt, world, OwnedCall::Get(key))
-}
-
-// Returns the reply of a value, or of `None`.
-pub(super) fn reply(value: Option<u64>) -> Close {
-    Close::Reply(KeptReply::Value(value))
 }
 
 // Returns the labels from `first` on, as text.
@@ -283,8 +271,8 @@ fn begins_at<F: ComputeFn<u64, u64> + Copy, A: Allocator + Copy>(
     assert_same_at(rt, k, seen, (k < 2, refused, refused));
     let (next, found) = if refused { (0, None) } else { (1, Some(10)) };
     assert_same_at(rt, k, begins(rt, &mut world, OwnedCall::Get(3)), next);
-    assert_same_at(rt, k, finish(rt, &mut world, 0).0, reply(None));
-    assert_same_at(rt, k, value(rt, &mut world, 3), reply(found));
+    assert_same_at(rt, k, finish(rt, &mut world, 0).0, closes_with(None));
+    assert_same_at(rt, k, value(rt, &mut world, 3), closes_with(found));
     drop(world);
 }
 
@@ -348,7 +336,7 @@ fn inserted_at<F: ComputeFn<u64, u64> + Copy + Debug, A: Allocator + Copy>(
 )
     requires { (f : F) → F.can_change f × F.never_keeps f }
 {
-    let none = reply(None);
+    let none = closes_with(None);
     if k < 4 {
         assert_same_at(rt, k, seen, (Told::Call, Close::Refused));
         assert_same_at(rt, k, value(rt, world, 3), none);
@@ -359,7 +347,7 @@ fn inserted_at<F: ComputeFn<u64, u64> + Copy + Debug, A: Allocator + Copy>(
         assert_same_at(rt, k, labels_from(rt, alloc, world, 0), plain);
     }
     let found = if k < 4 { 11 } else { 10 };
-    assert_same_at(rt, k, value(rt, world, 3), reply(Some(found)));
+    assert_same_at(rt, k, value(rt, world, 3), closes_with(Some(found)));
 }
 
 // The insertion that reaches the threshold also makes a request for a larger table. If that fails, the insertion continues, and the next
@@ -407,7 +395,7 @@ fn grown_at<F: ComputeFn<u64, u64> + Copy + Debug, A: Allocator + Copy>(
 )
     requires { (f : F) → F.can_change f × F.never_keeps f }
 {
-    let none = reply(None);
+    let none = closes_with(None);
     let (wanted, found) = match k {
         0 | 1 | 2 => ((Told::Call, Close::Refused), None),
         3 => ((Told::Nothing, none), Some(5)),
@@ -415,7 +403,7 @@ fn grown_at<F: ComputeFn<u64, u64> + Copy + Debug, A: Allocator + Copy>(
     };
     assert_same_at(rt, k, seen, wanted);
     assert_same_at(rt, k, say(rt, alloc, world, "Placed(5)"), k == 4);
-    assert_same_at(rt, k, value(rt, world, 20), reply(found));
+    assert_same_at(rt, k, value(rt, world, 20), closes_with(found));
     assert_same_at(rt, k, whole(rt, world, OwnedCall::Insert(21, 6)), none);
     assert_same_at(rt, k, whole(rt, world, OwnedCall::Insert(22, 7)), none);
     assert_same_at(rt, k, say(rt, alloc, world, "Published(5)"), true);
@@ -432,7 +420,7 @@ fn look_up(rt: HostRuntime) {
             assert_same(&rt, k, 1);
             return;
         }
-        assert_same_at(&rt, k, seen, Some((Told::Step, reply(Some(0)))));
+        assert_same_at(&rt, k, seen, Some((Told::Step, closes_with(Some(0)))));
     }
     panic!(rt; "it makes fewer requests");
 }
@@ -493,7 +481,7 @@ fn reserves_at<F: ComputeFn<u64, u64> + Copy, A: Allocator + Copy>(
     let mut world: Numbers<F, A> = world_of(rt, memory, count);
     let seen = refused_at(rt, metered, &mut world, OwnedCall::Reserve(100), k);
     let found = if count == 0 { None } else { Some(0) };
-    assert_same_at(rt, k, value(rt, &mut world, 0), reply(found));
+    assert_same_at(rt, k, value(rt, &mut world, 0), closes_with(found));
     assert_same_at(
         rt,
         k,

@@ -7,25 +7,14 @@ mod slot;
 mod world;
 mod world_rows;
 
+use super::{assert_same, assert_same_at};
 use flurry_bins::bin::{Bin, Entry, ListBin, Node, Ordered, Shape, TreeBin};
 use metered_alloc::MeteredAlloc;
 use std::alloc::{AllocError, Allocator, Global};
-use std::fmt::Debug;
 use std::process::Abort;
 use std::sync::Arc;
 
 type Memory = &'static MeteredAlloc<Global>;
-
-// Asserts that a value is the expected one. A test with many assertions calls this, because each `assert_eq!` in its own body makes its
-// proof longer.
-fn assert_same<T: PartialEq + Debug + Drop>(rt: &impl Abort, seen: T, wanted: T) {
-    assert_eq!(rt; seen, wanted);
-}
-
-// Asserts that a value is the expected one after the request numbered `k` has failed.
-fn assert_same_at<T: PartialEq + Debug + Drop>(rt: &impl Abort, k: u64, seen: T, wanted: T) {
-    assert_eq!(rt; seen, wanted, "at {k}");
-}
 
 // A bin of numbers. Its allocator is a parameter, because a proof over `Memory` unfolds it in each step.
 type NumberBin<A> = Bin<u64, u64, A>;

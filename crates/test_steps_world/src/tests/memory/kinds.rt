@@ -1,7 +1,8 @@
 //! Each request of each other kind of a world's calls fails in turn.
 
+use super::super::{Close, closes_with};
 use super::assert_same_at;
-use super::world::{Close, Numbers, Told, refused_at, reply, value, world_of};
+use super::world::{Numbers, Told, refused_at, value, world_of};
 use flurry_base::reply::KeptReply;
 use flurry_bins_slots::{ComputeFn, NoFn};
 use flurry_steps::party::OwnedCall;
@@ -14,7 +15,7 @@ const MOST: u64 = 1000;
 
 // A call in a world of the keys 0, 1 and 2, each with itself as its value: how many requests it makes for its pair, how it closes, and the
 // value of its key before and after it. Its other requests are for the room of labels.
-#[derive(Clone, Copy)]
+#[derive(Drop)]
 struct Row<F> {
     call: OwnedCall<u64, u64, F>,
     own: u64,
@@ -47,7 +48,7 @@ fn told_at<F: ComputeFn<u64, u64> + Copy, A: Allocator + Copy>(
     rt: &impl Abort,
     metered: &MeteredAlloc<Global>,
     memory: A,
-    row: Row<F>,
+    row: &Row<F>,
     k: u64,
 ) -> Option<Told>
     requires { (f : F) → F.can_change f × F.never_keeps f }
@@ -56,8 +57,8 @@ fn told_at<F: ComputeFn<u64, u64> + Copy, A: Allocator + Copy>(
     let seen = refused_at(rt, metered, &mut world, row.call, k);
     if let Some((told, close)) = seen {
         let wanted = match told {
-            Told::Call => (Close::Refused, reply(row.before)),
-            _ => (row.close, reply(row.after)),
+            Told::Call => (Close::Refused, closes_with(row.before)),
+            _ => (row.close, closes_with(row.after)),
         };
         assert_same_at(rt, k, (close, value(rt, &mut world, row.key)), wanted);
     }
@@ -76,7 +77,7 @@ fn refuses_each<F: ComputeFn<u64, u64> + Copy, A: Allocator + Copy>(
 {
     let mut own = 0u64;
     for k in 0..MOST {
-        let told = told_at(rt, metered, memory, row, k);
+        let told = told_at(rt, metered, memory, &row, k);
         assert_same_at(rt, k, metered.live_blocks(), 0);
         match told {
             None => {
@@ -106,7 +107,7 @@ fn refuses_writes<F: ComputeFn<u64, u64> + Copy, A: Allocator + Copy>(
         memory,
         row_of(OwnedCall::TryInsert(20, 5), 3, new, values),
     );
-    let two = reply(Some(2));
+    let two = closes_with(Some(2));
     let values = (1, Some(1), Some(2));
     refuses_each(
         rt,
@@ -137,7 +138,7 @@ fn refuses_removals<F: ComputeFn<u64, u64> + Copy, A: Allocator + Copy>(
     requires { (f : F) → F.can_change f × F.never_keeps f }
 {
     let values = (1, Some(1), None);
-    let one = reply(Some(1));
+    let one = closes_with(Some(1));
     let pair = Close::Reply(KeptReply::Pair(Some((1, 1))));
     refuses_each::<F, A>(
         rt,

@@ -1,12 +1,11 @@
 //! Each request of a slot's steps fails in turn.
-ghost use Rattle.std.specs.Prelude.{◌≡◌, ⊤};
-ghost use Rattle.flurry_base.specs.declared.verdict.Verdict.TheVariants.{Set};
 ghost use Rattle.flurry_bins_slots.specs.Slot.{LiesInBin};
 
+use super::super::Becomes;
 use super::{assert_same, assert_same_at};
 use flurry_base::sizes::bin_index;
 use flurry_bins::bin::Bin;
-use flurry_bins_slots::{Answer, ComputeFn, Computed, Given, Slot, Verdict};
+use flurry_bins_slots::{Answer, Computed, Given, Slot};
 use metered_alloc::MeteredAlloc;
 use std::alloc::{Allocator, Global};
 use std::process::Abort;
@@ -40,22 +39,6 @@ fn found<A: Allocator>(rt: &impl Abort, slot: &NumberSlot<A>) -> Option<(u64, u6
     }
 }
 
-// A function that sets this value at any key.
-#[derive(Clone, Copy)]
-struct Sets(u64);
-
-impl ComputeFn<u64, u64> for Sets {
-    ghost can_change = { λ _. ⊤ };
-
-    ghost never_keeps = { λ _. ⊤ };
-
-    ghost changes = { λ f _ _ v. v ≡ Set f.0 };
-
-    fn change<'a>(self, _key: &'a u64, _value: Option<&'a u64>) -> Verdict<u64> {
-        Verdict::Set(self.0)
-    }
-}
-
 // A step that sets the value of the key of the tests, whether or not it is present.
 #[derive(Clone, Copy)]
 enum Write {
@@ -76,7 +59,7 @@ fn write_at<A: Allocator + Copy>(
     metered.refuse_at(k);
     let failed = match write {
         Write::Put(value) => slot.put(memory, 3, 3, Given::Plain(value)).is_err(),
-        Write::Alter(value) => slot.alter(memory, 3, 3, Sets(value)).is_err(),
+        Write::Alter(value) => slot.alter(memory, 3, 3, Becomes(Some(value))).is_err(),
     };
     let refused = metered.was_refused();
     metered.refuse_nothing();
