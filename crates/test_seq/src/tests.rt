@@ -19,7 +19,7 @@ mod steps;
 
 use std::alloc::{Allocator, Global};
 use std::collections::VecDeque;
-use std::fmt::{Debug, Display};
+use std::fmt::Debug;
 use std::process::Abort;
 use std::sync::Arc;
 
@@ -40,13 +40,13 @@ fn assert_same<T: PartialEq + Debug + Drop>(rt: &impl Abort, seen: T, wanted: T)
 }
 
 // Asserts that a value is the expected one. A failure also reports `at`.
-fn assert_same_at<T: PartialEq + Debug + Drop>(
+fn assert_same_at<I: PartialEq + Debug + Copy + Drop, T: PartialEq + Debug + Drop>(
     rt: &impl Abort,
-    at: impl Display + Drop,
+    at: I,
     seen: T,
     wanted: T,
 ) {
-    assert_eq!(rt; seen, wanted, "at {at}");
+    assert_eq!(rt; (at, seen), (at, wanted));
 }
 
 // Returns a queue of calls as values, in their order.

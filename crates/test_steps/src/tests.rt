@@ -8,7 +8,7 @@ mod first_steps;
 mod party;
 mod slot;
 
-use std::fmt::{Debug, Display};
+use std::fmt::Debug;
 use std::process::Abort;
 
 // Asserts that a value is the expected one. A test with many assertions calls this, because each `assert_eq!` in its own body makes its
@@ -18,11 +18,11 @@ fn assert_same<T: PartialEq + Debug + Drop>(rt: &impl Abort, seen: T, wanted: T)
 }
 
 // Asserts that a value is the expected one. A failure also reports `at`.
-fn assert_same_at<T: PartialEq + Debug + Drop>(
+fn assert_same_at<I: PartialEq + Debug + Copy + Drop, T: PartialEq + Debug + Drop>(
     rt: &impl Abort,
-    at: impl Display + Drop,
+    at: I,
     seen: T,
     wanted: T,
 ) {
-    assert_eq!(rt; seen, wanted, "at {at}");
+    assert_eq!(rt; (at, seen), (at, wanted));
 }

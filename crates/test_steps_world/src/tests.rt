@@ -19,7 +19,7 @@ use flurry_steps::party::OwnedCall;
 use flurry_steps_theory::Label;
 use flurry_steps_world::world::World;
 use std::alloc::Global;
-use std::fmt::{Debug, Display};
+use std::fmt::Debug;
 use std::process::Abort;
 
 /// A world in which the hash of each key is the key.
@@ -49,13 +49,13 @@ fn assert_same<T: PartialEq + Debug + Drop>(rt: &impl Abort, seen: T, wanted: T)
 }
 
 // Asserts that a value is the expected one. A failure also reports `at`.
-fn assert_same_at<T: PartialEq + Debug + Drop>(
+fn assert_same_at<I: PartialEq + Debug + Copy + Drop, T: PartialEq + Debug + Drop>(
     rt: &impl Abort,
-    at: impl Display + Drop,
+    at: I,
     seen: T,
     wanted: T,
 ) {
-    assert_eq!(rt; seen, wanted, "at {at}");
+    assert_eq!(rt; (at, seen), (at, wanted));
 }
 
 // A function that sets this value, or that removes the pair, at any key.

@@ -1,5 +1,6 @@
 //! What a run writes and the status that it ends with if a request fails, and that every block is deallocated.
 
+use super::assert_same;
 use flurry_run_words::{Output, run_words};
 use metered_alloc::MeteredAlloc;
 use std::alloc::Global;
@@ -34,6 +35,17 @@ fn run_without(
     Ok((status, output, refused))
 }
 
+// Asserts that a run in which the request numbered `k` failed has the end at `place` or at the next one, and returns the place of its end.
+fn place_of(rt: &impl Abort, ends: &[End<'_>], place: usize, (k, end): (u64, End<'_>)) -> usize {
+    let place = if ends.get(place) == Some(&end) {
+        place
+    } else {
+        place.saturating_add(1)
+    };
+    assert_same(rt, (k, ends.get(place)), (k, Some(&end)));
+    place
+}
+
 // Makes each request of a run fail in turn, and returns how many it makes. The run has each of `ends` in their order, and the last one if
 // no request fails.
 fn refuse_each(
@@ -49,14 +61,10 @@ fn refuse_each(
             rt,
             "memory for the output",
         );
-        let end = (status, output.get_ref().as_slice());
-        if ends.get(place) != Some(&end) {
-            place = place.saturating_add(1);
-        }
-        assert_eq!(rt; ends.get(place), Some(&end), "at {k}");
-        assert_eq!(rt; memory.live_blocks(), 0, "at {k}");
+        place = place_of(rt, ends, place, (k, (status, output.get_ref().as_slice())));
+        assert_same(rt, (k, memory.live_blocks()), (k, 0));
         if !refused {
-            assert_eq!(rt; place.saturating_add(1), ends.len());
+            assert_same(rt, place.saturating_add(1), ends.len());
             return k;
         }
     }
