@@ -7,6 +7,18 @@ use flurry_steps::party::{Event, OwnedCall, Reply};
 use std::alloc::Allocator;
 use std::sync::Wait;
 
+// A key or a value with a number.
+pub(super) trait Numbered {
+    // Returns the key or the value with this number.
+    fn of(number: u64) -> Self;
+}
+
+impl Numbered for u64 {
+    fn of(number: u64) -> Self {
+        number
+    }
+}
+
 // Does the steps of a call until it is done, and returns its reply.
 pub(super) fn reply_of<K: Ord + Drop, V: Drop, A: Allocator + Copy, F: ComputeFn<K, V>, R: Wait>(
     rt: &R,
@@ -49,29 +61,29 @@ pub(super) fn is_present<K: Ord + Drop, V: Drop, A: Allocator + Copy>(
     matches!(reply, Reply::Contains(true))
 }
 
-// Inserts the keys from `from` to `to`, each with itself as its value and as its hash.
-pub(super) fn put_all<A: Allocator + Copy, R: Wait>(
+// Inserts the pairs of the numbers from `from` to `to`, each with its number as its hash.
+pub(super) fn put_all<K: Ord + Drop + Numbered, V: Drop + Numbered, A: Allocator + Copy, R: Wait>(
     rt: &R,
-    locks: &Locks<u64, u64, A>,
+    locks: &Locks<K, V, A>,
     from: u64,
     to: u64,
 ) {
     for number in from..to {
-        let call: OwnedCall<u64, u64, NoFn> = OwnedCall::Insert(number, number);
+        let call: OwnedCall<K, V, NoFn> = OwnedCall::Insert(K::of(number), V::of(number));
         drop(reply_of(rt, locks, number, call));
     }
 }
 
-// Returns how many of the keys from `from` to `to` are present.
-pub(super) fn count_found<A: Allocator + Copy, R: Wait>(
+// Returns how many of the pairs of the numbers from `from` to `to` are present.
+pub(super) fn count_found<K: Ord + Drop + Numbered, V: Drop, A: Allocator + Copy, R: Wait>(
     rt: &R,
-    locks: &Locks<u64, u64, A>,
+    locks: &Locks<K, V, A>,
     from: u64,
     to: u64,
 ) -> usize {
     let mut found = 0usize;
     for number in from..to {
-        let call: OwnedCall<u64, u64, NoFn> = OwnedCall::ContainsKey(number);
+        let call: OwnedCall<K, V, NoFn> = OwnedCall::ContainsKey(K::of(number));
         let reply = reply_of(rt, locks, number, call);
         if is_present(&reply) {
             found = found.saturating_add(1);
