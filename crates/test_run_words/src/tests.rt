@@ -214,7 +214,8 @@ fn tells_usage(rt: &(impl Abort + AllocGlobal + Threads + Wait + Sync), words: &
 
 #[test]
 fn other_words(rt: HostRuntime) {
-    tells_usage(&rt, &[]);
-    tells_usage(&rt, &["world", "1"]);
-    tells_usage(&rt, &["seq", "seq"]);
+    let rt = &rt;
+    tells_usage(rt, &[]);
+    tells_usage(rt, &["world", "1"]);
+    tells_usage(rt, &["seq", "seq"]);
 }

@@ -17,6 +17,7 @@ mod shapes;
 mod sorted;
 mod steps;
 
+use metered_alloc::MeteredAlloc;
 use std::alloc::{Allocator, Global};
 use std::collections::VecDeque;
 use std::fmt::Debug;
@@ -52,4 +53,12 @@ fn assert_same_at<I: PartialEq + Debug + Copy + Drop, T: PartialEq + Debug + Dro
 // Returns a queue of calls as values, in their order.
 fn queue_of<T: Drop, const N: usize>(rt: &impl Abort, alloc: Global, calls: [T; N]) -> VecDeque<T> {
     VecDeque::from(Vec::from_array(alloc, calls).expect(rt, "memory"))
+}
+
+// An allocator that can be told which requests fail.
+type Memory = &'static MeteredAlloc<Global>;
+
+// Returns an allocator that can be told which requests fail.
+fn metered(rt: &impl Abort, alloc: Global) -> Memory {
+    MeteredAlloc::leak(alloc).expect(rt, "memory for the allocator")
 }

@@ -61,34 +61,36 @@ fn written_line(alloc: Global, number: u64) -> io::Result<Output<Vec<u8>>> {
 
 #[test]
 fn what_lines_ask_for(rt: HostRuntime) {
-    assert_same(&rt, key_in(b"insert 7 0".as_slice()), Some(7));
-    assert_same(&rt, key_in(b"remove 8".as_slice()), Some(8));
-    assert_same(&rt, key_in(b"len".as_slice()), None);
-    assert_same(&rt, steps_in(b"step 0 4".as_slice()), Some(4));
-    assert_same(&rt, steps_in(b"begin clear".as_slice()), None);
+    let rt = &rt;
+    assert_same(rt, key_in(b"insert 7 0".as_slice()), Some(7));
+    assert_same(rt, key_in(b"remove 8".as_slice()), Some(8));
+    assert_same(rt, key_in(b"len".as_slice()), None);
+    assert_same(rt, steps_in(b"step 0 4".as_slice()), Some(4));
+    assert_same(rt, steps_in(b"begin clear".as_slice()), None);
 }
 
 #[test]
 fn lines_of_bytes(rt: HostRuntime) {
+    let rt = &rt;
     let mut bytes = b"len\nbins".as_slice();
     assert_same(
-        &rt,
-        first_byte(rt.alloc(), bytes).expect(&rt, "bytes that can be read"),
+        rt,
+        first_byte(rt.alloc(), bytes).expect(rt, "bytes that can be read"),
         Some(b'l'),
     );
     assert_same(
-        &rt,
-        has_line_feed(&mut bytes).expect(&rt, "bytes that can be read"),
+        rt,
+        has_line_feed(&mut bytes).expect(rt, "bytes that can be read"),
         true,
     );
     assert_same(
-        &rt,
-        has_line_feed(&mut bytes).expect(&rt, "bytes that can be read"),
+        rt,
+        has_line_feed(&mut bytes).expect(rt, "bytes that can be read"),
         false,
     );
     assert_same(
-        &rt,
-        is_at_end(&mut bytes).expect(&rt, "bytes that can be read"),
+        rt,
+        is_at_end(&mut bytes).expect(rt, "bytes that can be read"),
         true,
     );
 }

@@ -57,14 +57,15 @@ impl<'m> KeyHasher<u64> for CrowdHasher<'m> {
 // Three keys are inserted by three threads at the same time.
 #[test]
 fn three_threads_at_once(rt: HostRuntime) {
+    let rt = &rt;
     let crowd = Crowd {
         begun: AtomicU64::new(0),
         missed: AtomicBool::new(false),
     };
     let map = HashMap::with_hasher(rt.alloc(), CrowdHasher { crowd: &crowd });
-    assert_same(&rt, insert_in_threads(&rt, &map, 3, 1), true);
-    assert_same(&rt, map.len(&rt), 3);
-    assert_same(&rt, crowd.missed.load(Ordering::SeqCst), false);
+    assert_same(rt, insert_in_threads(rt, &map, 3, 1), true);
+    assert_same(rt, map.len(rt), 3);
+    assert_same(rt, crowd.missed.load(Ordering::SeqCst), false);
 }
 
 // Asserts that `threads` threads with `keys` keys each leave a map of the length `length`.
@@ -92,13 +93,15 @@ fn row_20_threads(rt: HostRuntime) {
 
 #[test]
 fn least_and_most_threads(rt: HostRuntime) {
-    leave(&rt, "1", "0", b"0\n".as_slice());
-    leave(&rt, "64", "10", b"640\n".as_slice());
-    leave(&rt, "1", "100000", b"100000\n".as_slice());
+    let rt = &rt;
+    leave(rt, "1", "0", b"0\n".as_slice());
+    leave(rt, "64", "10", b"640\n".as_slice());
+    leave(rt, "1", "100000", b"100000\n".as_slice());
 }
 
 #[test]
 fn other_numbers(rt: HostRuntime) {
+    let rt = &rt;
     for (threads, keys) in [
         ("0", "9"),
         ("65", "9"),
@@ -107,9 +110,9 @@ fn other_numbers(rt: HostRuntime) {
         ("4", "-1"),
         ("", "9"),
     ] {
-        tells_usage(&rt, &["threads", threads, keys]);
+        tells_usage(rt, &["threads", threads, keys]);
     }
-    tells_usage(&rt, &["threads"]);
-    tells_usage(&rt, &["threads", "4"]);
-    tells_usage(&rt, &["threads", "4", "9", "9"]);
+    tells_usage(rt, &["threads"]);
+    tells_usage(rt, &["threads", "4"]);
+    tells_usage(rt, &["threads", "4", "9", "9"]);
 }

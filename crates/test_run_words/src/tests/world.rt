@@ -269,6 +269,7 @@ fn push_doubling(
 // A walk that has read a pair in a table of 16 bins goes on after two doublings, reads the other pair once, and ends.
 #[test]
 fn row_12(rt: HostRuntime) {
+    let rt = &rt;
     let lines =
         b"world 1 8\nbegin insert 1 1\nstep 0 4\nbegin insert 17 17\nstep 1 4\nbegin walk\nstep 2 3\n\
         begin reserve 16\nstep 3 61\nstep 2 107\n"
@@ -277,33 +278,34 @@ fn row_12(rt: HostRuntime) {
     let first = "begin 0\nsilent 0\ndecide 0 none\nsilent 0\nreply 0 none\n\
         begin 1\nsilent 1\ndecide 1 none\nsilent 1\nreply 1 none\n\
         begin 2\nsilent 2\nsilent 2\nread 2 1 1\nbegin 3\nsilent 3\n";
-    push_times(&rt, &mut want, first, 1);
-    push_doubling(&rt, &mut want, 3, 4, 16);
-    push_doubling(&rt, &mut want, 3, 5, 32);
-    push_times(&rt, &mut want, "silent 3\nend 3\n", 1);
-    push_times(&rt, &mut want, "silent 2\n", 5);
-    push_times(&rt, &mut want, "read 2 17 17\n", 1);
-    push_times(&rt, &mut want, "silent 2\n", 100);
-    push_times(&rt, &mut want, "end 2\n", 1);
-    answers(&rt, lines, 0, want.as_bytes())
+    push_times(rt, &mut want, first, 1);
+    push_doubling(rt, &mut want, 3, 4, 16);
+    push_doubling(rt, &mut want, 3, 5, 32);
+    push_times(rt, &mut want, "silent 3\nend 3\n", 1);
+    push_times(rt, &mut want, "silent 2\n", 5);
+    push_times(rt, &mut want, "read 2 17 17\n", 1);
+    push_times(rt, &mut want, "silent 2\n", 100);
+    push_times(rt, &mut want, "end 2\n", 1);
+    answers(rt, lines, 0, want.as_bytes())
 }
 
 // A walk that has done one step in a table of 4 bins goes on after five doublings, to 128 bins, reads the pair once, and ends.
 #[test]
 fn a_walk_beside_five_doublings(rt: HostRuntime) {
+    let rt = &rt;
     let lines =
         b"world 1 2\nbegin insert 2 2\nstep 0 4\nbegin walk\nstep 1 1\nbegin reserve 40\nstep 2 152\nstep 1 254\n".as_slice();
     let mut want = String::new(rt.alloc());
     let first =
         "begin 0\nsilent 0\ndecide 0 none\nsilent 0\nreply 0 none\nbegin 1\nsilent 1\nbegin 2\nsilent 2\n";
-    push_times(&rt, &mut want, first, 1);
+    push_times(rt, &mut want, first, 1);
     for (table, bins) in [(2, 4), (3, 8), (4, 16), (5, 32), (6, 64)] {
-        push_doubling(&rt, &mut want, 2, table, bins);
+        push_doubling(rt, &mut want, 2, table, bins);
     }
-    push_times(&rt, &mut want, "silent 2\nend 2\n", 1);
-    push_times(&rt, &mut want, "silent 1\n", 131);
-    push_times(&rt, &mut want, "read 1 2 2\n", 1);
-    push_times(&rt, &mut want, "silent 1\n", 121);
-    push_times(&rt, &mut want, "end 1\n", 1);
-    answers(&rt, lines, 0, want.as_bytes())
+    push_times(rt, &mut want, "silent 2\nend 2\n", 1);
+    push_times(rt, &mut want, "silent 1\n", 131);
+    push_times(rt, &mut want, "read 1 2 2\n", 1);
+    push_times(rt, &mut want, "silent 1\n", 121);
+    push_times(rt, &mut want, "end 1\n", 1);
+    answers(rt, lines, 0, want.as_bytes())
 }

@@ -24,23 +24,24 @@ fn insertions_at_an_absent_and_a_present_key(rt: HostRuntime) {
 
 #[test]
 fn calls_of_a_present_and_an_absent_key(rt: HostRuntime) {
-    let mut map = three_pairs(&rt, rt.alloc());
+    let rt = &rt;
+    let mut map = three_pairs(rt, rt.alloc());
     let steps = [
         Step::Contains(2, true),
         Step::Contains(4, false),
         Step::HasPair(4, false),
         Step::Insert(4, 40, None),
     ];
-    run(&rt, &mut map, &steps);
+    run(rt, &mut map, &steps);
     let present = map.compute_if_present(&4, |key, value| Some(*value % 7 + *key % 7));
-    assert_same(&rt, taken(present.expect(&rt, "memory")), Some(9));
+    assert_same(rt, taken(present.expect(rt, "memory")), Some(9));
     let steps = [
         Step::ComputeSame(5, None, 0),
         Step::Remove(4, Some(9)),
         Step::RemovePair(4, false),
         Step::Len(3),
     ];
-    run(&rt, &mut map, &steps);
+    run(rt, &mut map, &steps);
 }
 
 // Returns the values of the keys below 4, where 0 stands for no value.
@@ -54,39 +55,42 @@ fn values_of(map: &SeqMap<u64, u64, LowHashBuilder>) -> [u64; 4] {
 
 #[test]
 fn pairs_keys_and_values(rt: HostRuntime) {
-    let map = three_pairs(&rt, rt.alloc());
-    assert_same(&rt, values_of(&map), [0, 10, 20, 30]);
-    assert_same(&rt, lent(map.keys().max()), Some(3));
-    assert_same(&rt, lent(map.values().min()), Some(10));
+    let rt = &rt;
+    let map = &three_pairs(rt, rt.alloc());
+    assert_same(rt, values_of(map), [0, 10, 20, 30]);
+    assert_same(rt, lent(map.keys().max()), Some(3));
+    assert_same(rt, lent(map.values().min()), Some(10));
 }
 
 #[test]
 fn equality(rt: HostRuntime) {
-    let map = three_pairs(&rt, rt.alloc());
+    let rt = &rt;
+    let map = three_pairs(rt, rt.alloc());
     let made = SeqMap::with_capacity_and_hasher(rt.alloc(), 100, LowHashBuilder);
-    let mut other = made.expect(&rt, "memory");
-    assert_same(&rt, map != other, true);
-    let list = Vec::from_array(rt.alloc(), [(3, 30), (1, 11), (2, 20)]).expect(&rt, "memory");
-    other.extend(list).expect(&rt, "memory");
-    assert_same(&rt, map != other, true);
-    run(&rt, &mut other, &[Step::Insert(1, 10, Some(11))]);
-    assert_same(&rt, map == other, true);
+    let mut other = made.expect(rt, "memory");
+    assert_same(rt, map != other, true);
+    let list = Vec::from_array(rt.alloc(), [(3, 30), (1, 11), (2, 20)]).expect(rt, "memory");
+    other.extend(list).expect(rt, "memory");
+    assert_same(rt, map != other, true);
+    run(rt, &mut other, &[Step::Insert(1, 10, Some(11))]);
+    assert_same(rt, map == other, true);
 }
 
 #[test]
 fn clear_and_into_bins(rt: HostRuntime) {
-    let mut map = three_pairs(&rt, rt.alloc());
+    let rt = &rt;
+    let mut map = three_pairs(rt, rt.alloc());
     let steps = [
         Step::Clear,
         Step::IsEmpty(true),
         Step::Bins(8),
         Step::InsertNew(0, 2),
     ];
-    run(&rt, &mut map, &steps);
+    run(rt, &mut map, &steps);
     let (bins, _) = map.into_bins();
     assert_eq!(rt; bins.len(), 8);
-    assert_same(&rt, bins[1].shape(), Shape::List(1));
-    assert_same(&rt, bins[2].len(), 0);
+    assert_same(rt, bins[1].shape(), Shape::List(1));
+    assert_same(rt, bins[2].len(), 0);
 }
 
 // The function that the calls as values pass to `compute_if_present`.
@@ -181,8 +185,9 @@ fn read_as(
 
 #[test]
 fn calls_as_values(rt: HostRuntime) {
+    let rt = &rt;
     let calls = queue_of(
-        &rt,
+        rt,
         rt.alloc(),
         [
             Call::IsEmpty,
@@ -202,11 +207,11 @@ fn calls_as_values(rt: HostRuntime) {
         ],
     );
     let mut map: SeqMap<u64, u64, LowHashBuilder> = SeqMap::with_hasher(rt.alloc(), LowHashBuilder);
-    let replies = map.run(rt.alloc(), calls).expect(&rt, "memory");
+    let replies = map.run(rt.alloc(), calls).expect(rt, "memory");
     let want =
         "true\nno value\nInsert of \"1\" failed as key was already present with value \"8\"\nnew 2\nvalue 9\nno value\n\
         no value\nvalue 2\npair 8 2\ntrue\n1\n16\ndone\n0\n";
-    read_as(&rt, replies.as_slice(), want);
+    read_as(rt, replies.as_slice(), want);
 }
 
 // Makes a call as a value that computes the value that a key has, and returns how often the function is called.
@@ -228,10 +233,11 @@ fn times_computed(rt: &impl Abort, map: &mut SeqMap<u64, u64, LowHashBuilder>, k
 // A call as a value that computes calls its function once if the key is present, and on no pair if it is absent.
 #[test]
 fn computes_at_a_present_key_alone(rt: HostRuntime) {
-    let mut map = three_pairs(&rt, rt.alloc());
-    assert_same_at(&rt, 3, times_computed(&rt, &mut map, 3), 1);
-    assert_same_at(&rt, 4, times_computed(&rt, &mut map, 4), 0);
-    assert_same(&rt, map.len(), 3);
+    let rt = &rt;
+    let mut map = three_pairs(rt, rt.alloc());
+    assert_same_at(rt, 3, times_computed(rt, &mut map, 3), 1);
+    assert_same_at(rt, 4, times_computed(rt, &mut map, 4), 0);
+    assert_same(rt, map.len(), 3);
 }
 
 // Makes a call as a value that computes by a function, and one that keeps pairs by a function.
@@ -246,17 +252,19 @@ fn call_by_functions(rt: &impl Abort, map: &mut SeqMap<u64, u64, LowHashBuilder>
 
 #[test]
 fn one_call_as_a_value(rt: HostRuntime) {
-    let mut map = three_pairs(&rt, rt.alloc());
-    run(&rt, &mut map, &[Step::Insert(3, 8, Some(30))]);
-    call_by_functions(&rt, &mut map, 3);
-    run(&rt, &mut map, &[Step::Get(3, Some(9)), Step::Len(3)]);
+    let rt = &rt;
+    let mut map = three_pairs(rt, rt.alloc());
+    run(rt, &mut map, &[Step::Insert(3, 8, Some(30))]);
+    call_by_functions(rt, &mut map, 3);
+    run(rt, &mut map, &[Step::Get(3, Some(9)), Step::Len(3)]);
 }
 
 #[test]
 fn removing_calls_as_values(rt: HostRuntime) {
-    let more = Vec::from_array(rt.alloc(), [(5, 50)]).expect(&rt, "memory");
+    let rt = &rt;
+    let more = Vec::from_array(rt.alloc(), [(5, 50)]).expect(rt, "memory");
     let calls = queue_of(
-        &rt,
+        rt,
         rt.alloc(),
         [
             Call::Remove(1),
@@ -272,11 +280,11 @@ fn removing_calls_as_values(rt: HostRuntime) {
             Call::ComputeIfPresent(6, up_to_nine),
         ],
     );
-    let mut map = three_pairs(&rt, rt.alloc());
-    let replies = map.run(rt.alloc(), calls).expect(&rt, "memory");
+    let mut map = three_pairs(rt, rt.alloc());
+    let replies = map.run(rt.alloc(), calls).expect(rt, "memory");
     let want = "value 10\npair 2 20\nno pair\ndone\n0\ndone\n128\ndone\nvalue 50\ndone\nno value\n";
-    read_as(&rt, replies.as_slice(), want);
-    assert_same(&rt, lent(map.get(&5)), Some(50));
+    read_as(rt, replies.as_slice(), want);
+    assert_same(rt, lent(map.get(&5)), Some(50));
 }
 
 // Returns the map of three pairs, in which the key 3 has another value.
@@ -299,8 +307,9 @@ fn is_three_pairs(
 
 #[test]
 fn reading_calls_as_values(rt: HostRuntime) {
+    let rt = &rt;
     let calls = queue_of(
-        &rt,
+        rt,
         rt.alloc(),
         [
             Call::ShapeOf(9),
@@ -308,8 +317,8 @@ fn reading_calls_as_values(rt: HostRuntime) {
             Call::Pairs,
             Call::Keys,
             Call::Values,
-            Call::Equals(three_pairs(&rt, rt.alloc())),
-            Call::Equals(three_other_pairs(&rt)),
+            Call::Equals(three_pairs(rt, rt.alloc())),
+            Call::Equals(three_other_pairs(rt)),
             Call::TryClone,
             Call::Remove(2),
             Call::Len,
@@ -317,10 +326,10 @@ fn reading_calls_as_values(rt: HostRuntime) {
             Call::ComputeIfPresent(4, up_to_nine),
         ],
     );
-    let mut map = three_pairs(&rt, rt.alloc());
-    let replies = map.run(rt.alloc(), calls).expect(&rt, "memory");
+    let mut map = three_pairs(rt, rt.alloc());
+    let replies = map.run(rt.alloc(), calls).expect(rt, "memory");
     let want =
         "List(1)\nEmpty\npairs 1 10 2 20 3 30\nkeys 1 2 3\nvalues 10 20 30\ntrue\nfalse\nmap of 3\nvalue 20\n2\ndone\nno value\n";
-    read_as(&rt, replies.as_slice(), want);
-    is_three_pairs(&rt, replies.get(7));
+    read_as(rt, replies.as_slice(), want);
+    is_three_pairs(rt, replies.get(7));
 }

@@ -56,16 +56,17 @@ fn compute(
 
 #[test]
 fn computations_at_present_and_absent_keys(rt: HostRuntime) {
-    let mut map = three_pairs(&rt, rt.alloc());
+    let rt = &rt;
+    let mut map = three_pairs(rt, rt.alloc());
     for (answer, before, wanted, len) in [
         (Some(21), Some(20), Done::Changed(21), 3),
         (None, Some(21), Done::Removed(21), 2),
         (None, None, Done::Absent, 2),
         (Some(22), None, Done::Added(22), 3),
     ] {
-        let seen = compute(&rt, &mut map, 2, answer);
-        assert_same(&rt, seen, (Some((2, before)), wanted));
-        assert_stands(&rt, &map, 2, answer, len);
+        let seen = compute(rt, &mut map, 2, answer);
+        assert_same(rt, seen, (Some((2, before)), wanted));
+        assert_stands(rt, &map, 2, answer, len);
     }
 }
 
@@ -87,15 +88,16 @@ fn merge(
 
 #[test]
 fn merges_at_present_and_absent_keys(rt: HostRuntime) {
-    let mut map = three_pairs(&rt, rt.alloc());
+    let rt = &rt;
+    let mut map = three_pairs(rt, rt.alloc());
     for (value, answer, called, wanted, stands, len) in [
         (5, Some(25), Some((20, 5)), Done::Changed(25), Some(25), 3),
         (6, None, Some((25, 6)), Done::Removed(25), None, 2),
         (7, None, None, Done::Added(7), Some(7), 3),
     ] {
-        let seen = merge(&rt, &mut map, 2, value, answer);
-        assert_same(&rt, seen, (called, wanted));
-        assert_stands(&rt, &map, 2, stands, len);
+        let seen = merge(rt, &mut map, 2, value, answer);
+        assert_same(rt, seen, (called, wanted));
+        assert_stands(rt, &map, 2, stands, len);
     }
 }
 
@@ -116,15 +118,16 @@ fn update(
 
 #[test]
 fn updates_of_present_keys_alone(rt: HostRuntime) {
-    let mut map = three_pairs(&rt, rt.alloc());
+    let rt = &rt;
+    let mut map = three_pairs(rt, rt.alloc());
     for (key, called, stands) in [
         (2, Some((2, 20)), Some(40)),
         (2, Some((2, 40)), Some(40)),
         (4, None, None),
     ] {
-        let seen = update(&rt, &mut map, key, 40);
-        assert_same(&rt, seen, (called, stands));
-        assert_stands(&rt, &map, key, stands, 3);
+        let seen = update(rt, &mut map, key, 40);
+        assert_same(rt, seen, (called, stands));
+        assert_stands(rt, &map, key, stands, 3);
     }
 }
 
@@ -140,15 +143,16 @@ fn get_or_insert(rt: &impl Abort, map: &mut NumberMap, key: u64, value: u64) -> 
 
 #[test]
 fn insertions_of_what_a_function_returns(rt: HostRuntime) {
-    let mut map = three_pairs(&rt, rt.alloc());
+    let rt = &rt;
+    let mut map = three_pairs(rt, rt.alloc());
     for (key, value, called, stands, len) in [
         (2, 40, None, 20, 3),
         (4, 40, Some(4), 40, 4),
         (4, 41, None, 40, 4),
     ] {
-        let seen = get_or_insert(&rt, &mut map, key, value);
-        assert_same(&rt, seen, (called, stands));
-        assert_stands(&rt, &map, key, Some(stands), len);
+        let seen = get_or_insert(rt, &mut map, key, value);
+        assert_same(rt, seen, (called, stands));
+        assert_stands(rt, &map, key, Some(stands), len);
     }
 }
 
@@ -164,15 +168,16 @@ fn remove_if(map: &mut NumberMap, key: u64, says: bool) -> (Option<(u64, u64)>, 
 
 #[test]
 fn removals_by_a_test(rt: HostRuntime) {
-    let mut map = three_pairs(&rt, rt.alloc());
+    let rt = &rt;
+    let mut map = three_pairs(rt, rt.alloc());
     for (says, called, removed, stands, len) in [
         (false, Some((2, 20)), None, Some(20), 3),
         (true, Some((2, 20)), Some(20), None, 2),
         (true, None, None, None, 2),
     ] {
         let seen = remove_if(&mut map, 2, says);
-        assert_same(&rt, seen, (called, removed));
-        assert_stands(&rt, &map, 2, stands, len);
+        assert_same(rt, seen, (called, removed));
+        assert_stands(rt, &map, 2, stands, len);
     }
 }
 
@@ -199,27 +204,29 @@ fn replace_if(
 
 #[test]
 fn replacements_by_a_test(rt: HostRuntime) {
-    let mut map = three_pairs(&rt, rt.alloc());
+    let rt = &rt;
+    let mut map = three_pairs(rt, rt.alloc());
     for (key, says, called, answer, stands) in [
         (2, false, Some((2, 20)), Err(40), Some(20)),
         (2, true, Some((2, 20)), Ok(20), Some(40)),
         (4, true, None, Err(40), None),
     ] {
-        let seen = replace_if(&rt, &mut map, key, says, 40);
-        assert_same(&rt, seen, (called, answer));
-        assert_stands(&rt, &map, key, stands, 3);
+        let seen = replace_if(rt, &mut map, key, says, 40);
+        assert_same(rt, seen, (called, answer));
+        assert_stands(rt, &map, key, stands, 3);
     }
 }
 
 // A new key makes a first table, and enlarges it: the twelfth pair fills three quarters of 16 bins.
 #[test]
 fn growth_by_new_keys(rt: HostRuntime) {
+    let rt = &rt;
     let mut map: NumberMap = SeqMap::with_hasher(rt.alloc(), LowHashBuilder);
     for (first, bins) in [(0, 16), (3, 16), (6, 16), (9, 32)] {
-        compute(&rt, &mut map, first, Some(0));
-        merge(&rt, &mut map, first + 1, 0, None);
-        get_or_insert(&rt, &mut map, first + 2, 0);
-        assert_same_at(&rt, first, map.capacity(), bins);
+        compute(rt, &mut map, first, Some(0));
+        merge(rt, &mut map, first + 1, 0, None);
+        get_or_insert(rt, &mut map, first + 2, 0);
+        assert_same_at(rt, first, map.capacity(), bins);
     }
-    assert_same(&rt, map.len(), 12);
+    assert_same(rt, map.len(), 12);
 }

@@ -14,12 +14,13 @@ fn debug_of<T: Debug>(rt: &impl Abort, alloc: Global, value: &T) -> String {
 
 #[test]
 fn a_map_prints_how_many_pairs_it_has(rt: HostRuntime) {
+    let rt = &rt;
     let mut map: SeqMap<u64, u64> = SeqMap::new(rt.alloc());
-    let text = debug_of(&rt, rt.alloc(), &map);
-    assert_same(&rt, text.as_str(), "SeqMap { len: 0, .. }");
-    assert_same(&rt, map.insert(37, 1).is_ok(), true);
-    let text = debug_of(&rt, rt.alloc(), &map);
-    assert_same(&rt, text.as_str(), "SeqMap { len: 1, .. }");
+    let text = debug_of(rt, rt.alloc(), &map);
+    assert_same(rt, text.as_str(), "SeqMap { len: 0, .. }");
+    assert_same(rt, map.insert(37, 1).is_ok(), true);
+    let text = debug_of(rt, rt.alloc(), &map);
+    assert_same(rt, text.as_str(), "SeqMap { len: 1, .. }");
 }
 
 #[test]

@@ -23,12 +23,13 @@ fn row_03(rt: HostRuntime) {
 // 64 bins hold only 48 pairs.
 #[test]
 fn row_04(rt: HostRuntime) {
-    on_map_for(&rt, 0, &[Step::Bins(0)]);
-    on_map_for(&rt, 1, &[Step::Bins(2)]);
-    on_map_for(&rt, 5, &[Step::Bins(8)]);
-    on_map_for(&rt, 16, &[Step::Bins(32)]);
-    on_new_map::<u64>(&rt, &[Step::Reserve(0), Step::Bins(1)]);
-    on_new_map::<u64>(&rt, &[Step::Reserve(32), Step::Bins(128)]);
+    let rt = &rt;
+    on_map_for(rt, 0, &[Step::Bins(0)]);
+    on_map_for(rt, 1, &[Step::Bins(2)]);
+    on_map_for(rt, 5, &[Step::Bins(8)]);
+    on_map_for(rt, 16, &[Step::Bins(32)]);
+    on_new_map::<u64>(rt, &[Step::Reserve(0), Step::Bins(1)]);
+    on_new_map::<u64>(rt, &[Step::Reserve(32), Step::Bins(128)]);
 }
 
 // A table that is full is doubled.

@@ -23,9 +23,10 @@ fn row_08_with<S: KeyHasher<i32> + Drop>(rt: &(impl Abort + AllocGlobal), hasher
 // A thousand signed keys, with different hashes and with one hash for all.
 #[test]
 fn row_08(rt: HostRuntime) {
-    row_08_with(&rt, DefaultHashBuilder::default());
-    row_08_with(&rt, ZeroHashBuilder);
-    row_08_with(&rt, MaxHashBuilder)
+    let rt = &rt;
+    row_08_with(rt, DefaultHashBuilder::default());
+    row_08_with(rt, ZeroHashBuilder);
+    row_08_with(rt, MaxHashBuilder)
 }
 
 const KEYS: u64 = 50_000;
@@ -60,11 +61,12 @@ fn counts(map: &SeqMap<u64, u64>) -> (usize, usize, usize) {
 // Fifty thousand keys, half of which are removed and inserted again.
 #[test]
 fn row_09(rt: HostRuntime) {
+    let rt = &rt;
     let mut map = SeqMap::new(rt.alloc());
-    assert_same(&rt, insert_all(&rt, &mut map), 50_000);
-    assert_same(&rt, (map.capacity(), map.len()), (131_072, 50_000));
-    assert_same(&rt, insert_all(&rt, &mut map), 0);
-    assert_same(&rt, remove_half(&mut map), 25_000);
-    assert_same(&rt, insert_all(&rt, &mut map), 25_000);
-    assert_same(&rt, counts(&map), (50_000, 50_000, 50_000));
+    assert_same(rt, insert_all(rt, &mut map), 50_000);
+    assert_same(rt, (map.capacity(), map.len()), (131_072, 50_000));
+    assert_same(rt, insert_all(rt, &mut map), 0);
+    assert_same(rt, remove_half(&mut map), 25_000);
+    assert_same(rt, insert_all(rt, &mut map), 25_000);
+    assert_same(rt, counts(&map), (50_000, 50_000, 50_000));
 }

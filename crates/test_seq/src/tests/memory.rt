@@ -12,15 +12,13 @@ mod quiet;
 mod sets;
 mod tables;
 
-use super::{assert_same, assert_same_at, lent, taken};
+use super::{Memory, assert_same, assert_same_at, lent, metered, taken};
 use flurry_base::hash::{KeyHasher, LowHashBuilder};
 use flurry_seq::SeqMap;
 use metered_alloc::MeteredAlloc;
 use std::alloc::{Allocator, Global};
 use std::collections::VecDeque;
 use std::process::Abort;
-
-type Memory = &'static MeteredAlloc<Global>;
 
 // A map of numbers. Its allocator is a parameter, because a proof over `Memory` unfolds it in each step.
 type NumberMap<S, A> = SeqMap<u64, u64, S, A>;
@@ -38,11 +36,6 @@ pub(super) trait Refused {
         memory: A,
         k: u64,
     ) -> bool;
-}
-
-// Returns an allocator that can be told which requests fail.
-fn metered(rt: &impl Abort, alloc: Global) -> Memory {
-    MeteredAlloc::leak(alloc).expect(rt, "memory for the allocator")
 }
 
 // Makes each request of a call fail in turn. The call makes at least one request, and every block is deallocated.

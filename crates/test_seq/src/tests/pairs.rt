@@ -80,14 +80,15 @@ fn calls_at_a_present_key_alone(rt: HostRuntime) {
 // The text of the error of `try_insert` for a present key.
 #[test]
 fn row_16_text(rt: HostRuntime) {
+    let rt = &rt;
     let mut map: SeqMap<u64, u64> = SeqMap::new(rt.alloc());
-    run(&rt, &mut map, &[Step::Insert(7, 0, None)]);
-    let answer = map.try_insert(7, 1).expect(&rt, "memory");
-    let error = answer.expect_err(&rt, "the key is present");
-    let text = format!(in rt.alloc(); "{error}").expect(&rt, "memory");
+    run(rt, &mut map, &[Step::Insert(7, 0, None)]);
+    let answer = map.try_insert(7, 1).expect(rt, "memory");
+    let error = answer.expect_err(rt, "the key is present");
+    let text = format!(in rt.alloc(); "{error}").expect(rt, "memory");
     let want = "Insert of \"1\" failed as key was already present with value \"0\"";
-    assert_same(&rt, text.as_str(), want);
-    assert_same(&rt, lent(map.get(&7)), Some(0));
+    assert_same(rt, text.as_str(), want);
+    assert_same(rt, lent(map.get(&7)), Some(0));
 }
 
 // Returns the error of `try_insert` of the value 1 at key 7, which has the value `stands`.
@@ -101,43 +102,46 @@ fn failed(rt: &(impl Abort + AllocGlobal), stands: u64) -> TryInsertError<u64> {
 // Two errors that differ only in the value that is present are not equal.
 #[test]
 fn errors_that_differ_in_the_value_that_stands(rt: HostRuntime) {
-    let first = failed(&rt, 0);
-    assert_same(&rt, first == failed(&rt, 0), true);
-    assert_same(&rt, first != failed(&rt, 2), true);
+    let rt = &rt;
+    let first = failed(rt, 0);
+    assert_same(rt, first == failed(rt, 0), true);
+    assert_same(rt, first != failed(rt, 2), true);
 }
 
 #[test]
 fn debug_text_of_an_error(rt: HostRuntime) {
+    let rt = &rt;
     for (stands, wanted) in [
         (0, "TryInsertError { current: 0, not_inserted: 1 }"),
         (2, "TryInsertError { current: 2, not_inserted: 1 }"),
     ] {
-        let error = failed(&rt, stands);
-        let text = format!(in rt.alloc(); "{error:?}").expect(&rt, "memory");
-        assert_same(&rt, text.as_str(), wanted);
+        let error = failed(rt, stands);
+        let text = format!(in rt.alloc(); "{error:?}").expect(rt, "memory");
+        assert_same(rt, text.as_str(), wanted);
     }
 }
 
 // The key that was stored first stays.
 #[test]
 fn whole_owned_table(rt: HostRuntime) {
+    let rt = &rt;
     let mut map: SeqMap<Tagged, u64, ZeroHashBuilder> = SeqMap::with_hasher(
         rt.alloc(),
         ZeroHashBuilder,
     );
     let first = Tagged { id: 1, tag: 10 };
     let second = Tagged { id: 1, tag: 20 };
-    assert_same(&rt, taken(map.insert(first, 0).expect(&rt, "memory")), None);
+    assert_same(rt, taken(map.insert(first, 0).expect(rt, "memory")), None);
     assert_same(
-        &rt,
-        taken(map.insert(second, 5).expect(&rt, "memory")),
+        rt,
+        taken(map.insert(second, 5).expect(rt, "memory")),
         Some(0),
     );
-    let (key, value) = map.get_key_value(&second).expect(&rt, "the key is present");
-    assert_same(&rt, (key.tag, **value), (10, 5));
-    let (key, value) = map.remove_entry(&second).expect(&rt, "the key is present");
-    assert_same(&rt, (key.tag, *value), (10, 5));
-    assert_same(&rt, map.is_empty(), true);
+    let (key, value) = map.get_key_value(&second).expect(rt, "the key is present");
+    assert_same(rt, (key.tag, **value), (10, 5));
+    let (key, value) = map.remove_entry(&second).expect(rt, "the key is present");
+    assert_same(rt, (key.tag, *value), (10, 5));
+    assert_same(rt, map.is_empty(), true);
 }
 
 // A map without pairs makes room for each pair of the list, and at least one bin.
@@ -187,24 +191,26 @@ fn whole_owned_table_of_lists(rt: HostRuntime) {
 // are enough. A clone of the map has the same room.
 #[test]
 fn whole_owned_table_of_a_longer_list(rt: HostRuntime) {
-    let list: Vec<(u64, u64)> = list_of(&rt, rt.alloc(), 0, 12, 1);
-    let mut map = SeqMap::from_list(rt.alloc(), list, LowHashBuilder).expect(&rt, "memory");
+    let rt = &rt;
+    let list: Vec<(u64, u64)> = list_of(rt, rt.alloc(), 0, 12, 1);
+    let mut map = SeqMap::from_list(rt.alloc(), list, LowHashBuilder).expect(rt, "memory");
     let steps = [Step::Holds(32, 12), Step::Clone(32, 12, 2, Some(2))];
-    run(&rt, &mut map, &steps);
+    run(rt, &mut map, &steps);
 }
 
 // A clone of a map without pairs has no table.
 #[test]
 fn whole_owned_table_of_clones(rt: HostRuntime) {
+    let rt = &rt;
     let steps = [
         Step::InsertNew(0, 1),
         Step::Remove(0, Some(0)),
         Step::Bins(16),
         Step::Clone(0, 0, 0, None),
     ];
-    on_new_map::<u64>(&rt, &steps);
-    let map: SeqMap<u64, u64> = SeqMap::with_capacity(rt.alloc(), 5).expect(&rt, "memory");
-    assert_same(&rt, (map.capacity(), map.len()), (8, 0));
+    on_new_map::<u64>(rt, &steps);
+    let map: SeqMap<u64, u64> = SeqMap::with_capacity(rt.alloc(), 5).expect(rt, "memory");
+    assert_same(rt, (map.capacity(), map.len()), (8, 0));
 }
 
 // A clone starts with room for its pairs alone.

@@ -45,23 +45,25 @@ fn has_the_last(rt: &impl Abort, map: &Numbers) {
 // Of a key that comes twice, the last value is stored, for any length of a piece. A length of 0 counts as 1.
 #[test]
 fn row_10(rt: HostRuntime) {
-    let one = doubled(&rt, 1);
-    has_the_last(&rt, &one);
+    let rt = &rt;
+    let one = doubled(rt, 1);
+    has_the_last(rt, &one);
     for part in [0, 2, 3, usize::MAX] {
-        let map = doubled(&rt, part);
-        has_the_last(&rt, &map);
-        assert_same(&rt, map == one, true);
+        let map = doubled(rt, part);
+        has_the_last(rt, &map);
+        assert_same(rt, map == one, true);
     }
 }
 
 #[test]
 fn a_hundred_pairs(rt: HostRuntime) {
-    let built = map::from_par_list(&rt, rt.alloc(), pairs(&rt), LowHashBuilder, 7).expect(
-        &rt, "memory",
+    let rt = &rt;
+    let built = map::from_par_list(rt, rt.alloc(), pairs(rt), LowHashBuilder, 7).expect(
+        rt, "memory",
     );
-    assert_same(&rt, built.len(), 100);
+    assert_same(rt, built.len(), 100);
     assert_same(
-        &rt,
+        rt,
         (lent(built.get(&100)), lent(built.get(&199))),
         (Some(0), Some(990)),
     );
@@ -69,14 +71,15 @@ fn a_hundred_pairs(rt: HostRuntime) {
 
 #[test]
 fn pairs_into_a_map(rt: HostRuntime) {
-    let list = Vec::from_array(rt.alloc(), [(1u64, 2u64), (3, 4)]).expect(&rt, "memory");
-    let mut map = SeqMap::from_list(rt.alloc(), list, LowHashBuilder).expect(&rt, "memory");
-    map::par_extend(&rt, &mut map, Vec::new(rt.alloc()), 7).expect(&rt, "memory");
-    assert_same(&rt, map.len(), 2);
-    map::par_extend(&rt, &mut map, pairs(&rt), 7).expect(&rt, "memory");
-    assert_same(&rt, map.len(), 102);
+    let rt = &rt;
+    let list = Vec::from_array(rt.alloc(), [(1u64, 2u64), (3, 4)]).expect(rt, "memory");
+    let mut map = SeqMap::from_list(rt.alloc(), list, LowHashBuilder).expect(rt, "memory");
+    map::par_extend(rt, &mut map, Vec::new(rt.alloc()), 7).expect(rt, "memory");
+    assert_same(rt, map.len(), 2);
+    map::par_extend(rt, &mut map, pairs(rt), 7).expect(rt, "memory");
+    assert_same(rt, map.len(), 102);
     assert_same(
-        &rt,
+        rt,
         (lent(map.get(&3)), lent(map.get(&199))),
         (Some(4), Some(990)),
     );
@@ -85,41 +88,41 @@ fn pairs_into_a_map(rt: HostRuntime) {
 // For a class that both maps have, the key of the left map stays, and the value of the right map is stored.
 #[test]
 fn joined(rt: HostRuntime) {
+    let rt = &rt;
     let (first, second) = (Tagged { id: 1, tag: 10 }, Tagged { id: 1, tag: 20 });
     let mut left = SeqMap::with_hasher(rt.alloc(), ZeroHashBuilder);
-    let _ = left.insert(first, 1u64).expect(&rt, "memory");
+    let _ = left.insert(first, 1u64).expect(rt, "memory");
     let mut right = SeqMap::with_hasher(rt.alloc(), ZeroHashBuilder);
-    let _ = right.insert(second, 2).expect(&rt, "memory");
+    let _ = right.insert(second, 2).expect(rt, "memory");
     let _ = right
         .insert(Tagged { id: 2, tag: 30 }, 3)
-        .expect(&rt, "memory");
-    map::join(&mut left, right).expect(&rt, "memory");
-    assert_same(&rt, left.len(), 2);
-    let (key, value) = left
-        .get_key_value(&second)
-        .expect(&rt, "the key is present");
-    assert_same(&rt, (key.tag, **value), (10, 2));
+        .expect(rt, "memory");
+    map::join(&mut left, right).expect(rt, "memory");
+    assert_same(rt, left.len(), 2);
+    let (key, value) = left.get_key_value(&second).expect(rt, "the key is present");
+    assert_same(rt, (key.tag, **value), (10, 2));
 }
 
 #[test]
 fn sets_of_pairs(rt: HostRuntime) {
+    let rt = &rt;
     let mut built: SeqSet<(u64, u64), ZeroHashBuilder> = set::from_par_list(
-        &rt,
+        rt,
         rt.alloc(),
-        pairs(&rt),
+        pairs(rt),
         ZeroHashBuilder,
         7,
-    ).expect(&rt, "memory");
-    assert_same(&rt, built.len(), 100);
+    ).expect(rt, "memory");
+    assert_same(rt, built.len(), 100);
     assert_same(
-        &rt,
+        rt,
         (built.contains(&(100, 0)), built.contains(&(100, 10000))),
         (true, false),
     );
-    let more = Vec::from_array(rt.alloc(), [(100, 0), (100, 10000)]).expect(&rt, "memory");
-    set::par_extend(&rt, &mut built, more, 1).expect(&rt, "memory");
+    let more = Vec::from_array(rt.alloc(), [(100, 0), (100, 10000)]).expect(rt, "memory");
+    set::par_extend(rt, &mut built, more, 1).expect(rt, "memory");
     assert_same(
-        &rt,
+        rt,
         (built.len(), built.contains(&(100, 10000))),
         (101, true),
     );

@@ -104,7 +104,7 @@ pub(super) fn three_pairs(rt: &impl Abort, alloc: Global) -> SeqMap<u64, u64, Lo
     SeqMap::from_list(alloc, list, LowHashBuilder).expect(rt, "memory")
 }
 
-// Makes the call of one row, which changes the map or reads it.
+// Makes the call of one row, which inserts, or changes the map otherwise, or reads it.
 fn write<K: Number, S: KeyHasher<K> + Copy + Drop>(
     rt: &impl Abort,
     map: &mut SeqMap<K, u64, S>,
@@ -140,6 +140,18 @@ fn write<K: Number, S: KeyHasher<K> + Copy + Drop>(
             assert_same_at(rt, at, try_insert(rt, map, key, value), Ok(value))
         }
         Step::Extend(first, end, times) => extend(rt, map, first, end, times),
+        _ => rewrite(rt, map, at, step),
+    }
+}
+
+// Makes the call of one row that changes the map by no insertion, or reads it.
+fn rewrite<K: Number, S: KeyHasher<K> + Copy + Drop>(
+    rt: &impl Abort,
+    map: &mut SeqMap<K, u64, S>,
+    at: usize,
+    step: Step,
+) {
+    match step {
         Step::Remove(key, value) => assert_same_at(rt, at, taken(map.remove(&K::of(key))), value),
         Step::RemovePair(key, wanted) => {
             assert_same_at(rt, at, map.remove_entry(&K::of(key)).is_some(), wanted)

@@ -52,13 +52,14 @@ fn three_without(memory: &MeteredAlloc<Global>, k: u64) -> (Result<usize, AllocE
 // `three` makes four requests.
 #[test]
 fn each_request_is_refused_in_turn(rt: HostRuntime) {
-    let memory = MeteredAlloc::new(rt.alloc());
+    let rt = &rt;
+    let memory = &MeteredAlloc::new(rt.alloc());
     for k in 0..4u64 {
-        let seen = three_without(&memory, k);
-        assert_same(&rt, (k, seen), (k, (Err(AllocError), true)));
-        assert_same(&rt, memory.live_blocks(), 0);
+        let seen = three_without(memory, k);
+        assert_same(rt, (k, seen), (k, (Err(AllocError), true)));
+        assert_same(rt, memory.live_blocks(), 0);
     }
-    assert_same(&rt, three_without(&memory, 4), (Ok(10), false));
+    assert_same(rt, three_without(memory, 4), (Ok(10), false));
 }
 
 // A list of nine numbers.
@@ -85,13 +86,14 @@ fn refuses_all(
 
 #[test]
 fn all_from_one_on_are_refused(rt: HostRuntime) {
-    let memory = MeteredAlloc::new(rt.alloc());
+    let rt = &rt;
+    let memory = &MeteredAlloc::new(rt.alloc());
     memory.refuse_from(2);
-    let mut numbers = nine(&memory).expect(&rt, "two requests");
-    refuses_all(&rt, &memory, &mut numbers);
+    let mut numbers = nine(memory).expect(rt, "two requests");
+    refuses_all(rt, memory, &mut numbers);
     memory.refuse_nothing();
-    assert_same(&rt, numbers.reserve(100).is_err(), false);
-    assert_same(&rt, memory.requests(), 1);
+    assert_same(rt, numbers.reserve(100).is_err(), false);
+    assert_same(rt, memory.requests(), 1);
 }
 
 // Creates a `Link`, which takes two requests, while the request numbered `k` fails, and checks what was created.
@@ -115,9 +117,9 @@ fn makes_link<A: Allocator + Copy>(
 
 #[test]
 fn a_type_of_ones_own(rt: HostRuntime) {
-    let memory = MeteredAlloc::new(rt.alloc());
+    let memory = &MeteredAlloc::new(rt.alloc());
     for k in 0..3u64 {
-        makes_link(&rt, &memory, &memory, k);
+        makes_link(&rt, memory, memory, k);
     }
     assert_same(&rt, memory.live_blocks(), 0);
 }
@@ -148,21 +150,23 @@ fn on_two_without(
 // `on_two` makes three requests.
 #[test]
 fn threads_share_it(rt: HostRuntime) {
-    let memory = MeteredAlloc::new(rt.alloc());
+    let rt = &rt;
+    let memory = &MeteredAlloc::new(rt.alloc());
     for k in 0..3u64 {
-        let seen = on_two_without(&rt, &memory, k);
-        assert_same(&rt, (k, seen), (k, (Err(AllocError), true)));
+        let seen = on_two_without(rt, memory, k);
+        assert_same(rt, (k, seen), (k, (Err(AllocError), true)));
     }
-    assert_same(&rt, on_two_without(&rt, &memory, 3), (Ok((3, 3)), false));
+    assert_same(rt, on_two_without(rt, memory, 3), (Ok((3, 3)), false));
 }
 
 #[test]
 fn a_leaked_one_goes_to_a_spawned_thread(rt: HostRuntime) {
-    let memory = MeteredAlloc::leak(rt.alloc()).expect(&rt, "memory for the allocator");
+    let rt = &rt;
+    let memory = MeteredAlloc::leak(rt.alloc()).expect(rt, "memory for the allocator");
     memory.refuse_at(1);
-    let child = thread::spawn(&rt, move || (boxed(memory, 1), boxed(memory, 2)));
-    let seen = child.expect(&rt, "the thread is started").join(&rt);
-    assert_same(&rt, seen, (Ok(1), Err(AllocError)));
+    let child = thread::spawn(rt, move || (boxed(memory, 1), boxed(memory, 2)));
+    let seen = child.expect(rt, "the thread is started").join(rt);
+    assert_same(rt, seen, (Ok(1), Err(AllocError)));
 }
 
 // A shared type that a crate defines itself. The list in its lock and its keys come from one allocator.
@@ -203,11 +207,12 @@ fn one_put<A: Allocator + Copy + Send + Sync, R: Threads + Wait + Sync>(
 
 #[test]
 fn threads_share_a_type_over_it(rt: HostRuntime) {
-    let memory = MeteredAlloc::leak(rt.alloc()).expect(&rt, "memory for the allocator");
-    let shelf: Shelf<u64, &'static MeteredAlloc<Global>> = Shelf::new(memory);
+    let rt = &rt;
+    let memory = MeteredAlloc::leak(rt.alloc()).expect(rt, "memory for the allocator");
+    let shelf: &Shelf<u64, &'static MeteredAlloc<Global>> = &Shelf::new(memory);
     memory.refuse_at(2);
-    let (one, two) = thread::join(&rt, || shelf.put(&rt, 1), || shelf.put(&rt, 2));
-    assert_same(&rt, one.is_err() != two.is_err(), true);
-    assert_same(&rt, memory.was_refused(), true);
-    assert_same(&rt, one_put(&rt, &shelf), Ok(2));
+    let (one, two) = thread::join(rt, || shelf.put(rt, 1), || shelf.put(rt, 2));
+    assert_same(rt, one.is_err() != two.is_err(), true);
+    assert_same(rt, memory.was_refused(), true);
+    assert_same(rt, one_put(rt, shelf), Ok(2));
 }

@@ -239,10 +239,11 @@ fn try_without<A: Allocator + Copy>(
 // It makes a clone of the `Arc` of the value that is present, and takes no memory.
 #[test]
 fn try_insert_of_a_present_key(rt: HostRuntime) {
-    let memory = metered(&rt, rt.alloc());
+    let rt = &rt;
+    let memory = metered(rt, rt.alloc());
     let exists = KeptReply::Exists {
         current: 1,
         not_inserted: 5,
     };
-    assert_same(&rt, try_without(&rt, memory, memory), (0, Some(exists)));
+    assert_same(rt, try_without(rt, memory, memory), (0, Some(exists)));
 }

@@ -59,7 +59,8 @@ fn takes_no_memory<A: Allocator + Copy>(
 
 #[test]
 fn calls_that_take_no_memory(rt: HostRuntime) {
-    let memory = metered(&rt, rt.alloc());
-    takes_no_memory(&rt, memory, memory);
-    assert_same(&rt, memory.requests(), 0);
+    let rt = &rt;
+    let memory = metered(rt, rt.alloc());
+    takes_no_memory(rt, memory, memory);
+    assert_same(rt, memory.requests(), 0);
 }

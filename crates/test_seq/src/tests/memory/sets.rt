@@ -160,13 +160,14 @@ fn default_is_refused<A: Allocator + Copy>(memory: A) -> bool {
 
 #[test]
 fn set_with_capacity(rt: HostRuntime) {
-    let memory = metered(&rt, rt.alloc());
+    let rt = &rt;
+    let memory = metered(rt, rt.alloc());
     memory.refuse_from(0);
-    assert_same(&rt, is_empty_for(memory, 0), Some(true));
-    assert_same(&rt, memory.requests(), 0);
-    assert_same(&rt, is_empty_for(memory, 5), None);
-    assert_same(&rt, default_is_refused(memory), true);
-    assert_same(&rt, memory.live_blocks(), 0);
+    assert_same(rt, is_empty_for(memory, 0), Some(true));
+    assert_same(rt, memory.requests(), 0);
+    assert_same(rt, is_empty_for(memory, 5), None);
+    assert_same(rt, default_is_refused(memory), true);
+    assert_same(rt, memory.live_blocks(), 0);
 }
 
 // A call of `reserve` for 32 more elements in a set of one. It requests tables of 32, 64 and 128 bins.

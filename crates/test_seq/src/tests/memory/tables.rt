@@ -21,15 +21,16 @@ fn size_for<A: Allocator + Copy>(memory: A, capacity: usize) -> Option<(usize, u
 
 #[test]
 fn with_capacity(rt: HostRuntime) {
-    let memory = metered(&rt, rt.alloc());
+    let rt = &rt;
+    let memory = metered(rt, rt.alloc());
     memory.refuse_from(0);
-    assert_same(&rt, size_for(memory, 0), Some((0, 0)));
-    assert_same(&rt, memory.requests(), 0);
-    assert_same(&rt, size_for(memory, 5), None);
-    assert_same(&rt, memory.live_blocks(), 0);
+    assert_same(rt, size_for(memory, 0), Some((0, 0)));
+    assert_same(rt, memory.requests(), 0);
+    assert_same(rt, size_for(memory, 5), None);
+    assert_same(rt, memory.live_blocks(), 0);
     memory.refuse_nothing();
-    assert_same(&rt, size_for(memory, 5), Some((8, 0)));
-    assert_same(&rt, memory.requests(), 1);
+    assert_same(rt, size_for(memory, 5), Some((8, 0)));
+    assert_same(rt, memory.requests(), 1);
 }
 
 // Creates a map with room for five pairs and the default hasher, and returns whether this fails.
@@ -43,10 +44,11 @@ fn default_is_refused<A: Allocator + Copy>(memory: A) -> bool {
 // The same with the default hasher.
 #[test]
 fn with_capacity_and_the_default_hasher(rt: HostRuntime) {
-    let memory = metered(&rt, rt.alloc());
+    let rt = &rt;
+    let memory = metered(rt, rt.alloc());
     memory.refuse_from(0);
-    assert_same(&rt, default_is_refused(memory), true);
-    assert_same(&rt, memory.live_blocks(), 0);
+    assert_same(rt, default_is_refused(memory), true);
+    assert_same(rt, memory.live_blocks(), 0);
 }
 
 // Reserves room for 32 pairs while the request numbered `k` fails. Returns whether that request was made and the call failed.
@@ -98,11 +100,12 @@ fn keeps_the_doublings<A: Allocator + Copy>(
 
 #[test]
 fn reserve_keeps_the_doublings_done(rt: HostRuntime) {
-    let memory = metered(&rt, rt.alloc());
+    let rt = &rt;
+    let memory = metered(rt, rt.alloc());
     for (k, bins) in [(0, 16), (1, 32), (2, 64)] {
-        keeps_the_doublings(&rt, memory, memory, k, bins);
+        keeps_the_doublings(rt, memory, memory, k, bins);
     }
-    assert_same(&rt, memory.live_blocks(), 0);
+    assert_same(rt, memory.live_blocks(), 0);
 }
 
 // Asserts that a new map has `bins` bins after a `reserve` whose request numbered `k` failed.
@@ -120,11 +123,12 @@ fn keeps_the_first_table<A: Allocator + Copy>(
 
 #[test]
 fn reserve_of_a_new_map(rt: HostRuntime) {
-    let memory = metered(&rt, rt.alloc());
+    let rt = &rt;
+    let memory = metered(rt, rt.alloc());
     for (k, bins) in [(0, 0), (1, 64)] {
-        keeps_the_first_table(&rt, memory, memory, k, bins);
+        keeps_the_first_table(rt, memory, memory, k, bins);
     }
-    assert_same(&rt, memory.live_blocks(), 0);
+    assert_same(rt, memory.live_blocks(), 0);
 }
 
 // Inserts an absent key while the request numbered `k`, which is for a larger table, fails. The insertion does not fail.
@@ -188,11 +192,12 @@ fn grows_in_part<A: Allocator + Copy>(
 // The ninth key of one hash asks for 128 bins, by doublings from 16 bins. The tenth key makes the list a tree in a table of any size.
 #[test]
 fn refused_growth_keeps_insert(rt: HostRuntime) {
-    let memory = metered(&rt, rt.alloc());
+    let rt = &rt;
+    let memory = metered(rt, rt.alloc());
     for (k, bins) in [(3, 16), (4, 32), (5, 64)] {
-        grows_in_part(&rt, memory, memory, k, bins);
+        grows_in_part(rt, memory, memory, k, bins);
     }
-    assert_same(&rt, memory.live_blocks(), 0);
+    assert_same(rt, memory.live_blocks(), 0);
 }
 
 // Fills one bin of a map, whose growth is refused.

@@ -63,20 +63,22 @@ impl<'m> KeyHasher<u64> for PairHasher<'m> {
 // Two pieces of one pair each are built by two threads.
 #[test]
 fn pieces_at_once(rt: HostRuntime) {
+    let rt = &rt;
     let pair = Pair::new();
     let hasher = PairHasher { pair: &pair };
-    let list = Vec::from_array(rt.alloc(), [(0u64, 5u64), (1, 7)]).expect(&rt, "memory");
-    let built = map::from_par_list(&rt, rt.alloc(), list, hasher, 1).expect(&rt, "memory");
-    assert_same(&rt, pair.has_met(), true);
-    assert_same(&rt, built.len(), 2);
+    let list = Vec::from_array(rt.alloc(), [(0u64, 5u64), (1, 7)]).expect(rt, "memory");
+    let built = map::from_par_list(rt, rt.alloc(), list, hasher, 1).expect(rt, "memory");
+    assert_same(rt, pair.has_met(), true);
+    assert_same(rt, built.len(), 2);
 }
 
 #[test]
 fn elements_at_once(rt: HostRuntime) {
+    let rt = &rt;
     let pair = Pair::new();
     let hasher = PairHasher { pair: &pair };
-    let list = Vec::from_array(rt.alloc(), [0u64, 1]).expect(&rt, "memory");
-    let built = set::from_par_list(&rt, rt.alloc(), list, hasher, 1).expect(&rt, "memory");
-    assert_same(&rt, pair.has_met(), true);
-    assert_same(&rt, built.len(), 2);
+    let list = Vec::from_array(rt.alloc(), [0u64, 1]).expect(rt, "memory");
+    let built = set::from_par_list(rt, rt.alloc(), list, hasher, 1).expect(rt, "memory");
+    assert_same(rt, pair.has_met(), true);
+    assert_same(rt, built.len(), 2);
 }

@@ -5,6 +5,7 @@
 
 mod sets;
 
+use super::super::metered;
 use super::{assert_same, lent};
 use flurry_base::hash::LowHashBuilder;
 use flurry_seq::SeqMap;
@@ -78,7 +79,7 @@ fn refuse_in_turn<A: Allocator + Copy + Send + Sync, R: Abort + Threads + Sync>(
 
 // Makes each request fail, alone and with all later ones.
 fn refuse_each(rt: &(impl Abort + Threads + Sync), alloc: Global, call: Call) {
-    let memory = MeteredAlloc::leak(alloc).expect(rt, "memory for the allocator");
+    let memory = metered(rt, alloc);
     refuse_in_turn(rt, memory, memory, call, false);
     refuse_in_turn(rt, memory, memory, call, true);
 }

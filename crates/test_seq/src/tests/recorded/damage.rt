@@ -50,16 +50,17 @@ fn two_shares_fit(rt: HostRuntime) {
 
 #[test]
 fn three_shares_fit(rt: HostRuntime) {
+    let rt = &rt;
     let map = Numbers::with_hasher(rt.alloc(), LowHashBuilder);
-    let (first, second) = three_calls(&rt, &map);
-    let mut third = share_of(&rt, &map);
-    look(&rt, &map, &mut third, 1);
+    let (first, second) = three_calls(rt, &map);
+    let mut third = share_of(rt, &map);
+    look(rt, &map, &mut third, 1);
     assert_same(
-        &rt,
+        rt,
         [first.number(), second.number(), third.number()],
         [0, 1, 2],
     );
-    ends(&rt, map, [third, first, second], Ok((4, 1, Some(1))));
+    ends(rt, map, [third, first, second], Ok((4, 1, Some(1))));
 }
 
 #[test]
@@ -72,20 +73,22 @@ fn a_share_is_missing(rt: HostRuntime) {
 // A share that made no call belongs to the map as the other shares do.
 #[test]
 fn a_share_without_a_receipt_is_missing(rt: HostRuntime) {
+    let rt = &rt;
     let map = Numbers::with_hasher(rt.alloc(), LowHashBuilder);
-    let (first, second) = three_calls(&rt, &map);
-    let _ = share_of(&rt, &map);
-    ends(&rt, map, [first, second], Err(CloseFault::SharesDiffer));
+    let (first, second) = three_calls(rt, &map);
+    let _ = share_of(rt, &map);
+    ends(rt, map, [first, second], Err(CloseFault::SharesDiffer));
 }
 
 #[test]
 fn a_share_of_another_map(rt: HostRuntime) {
+    let rt = &rt;
     let map = Numbers::with_hasher(rt.alloc(), LowHashBuilder);
     let other = Numbers::with_hasher(rt.alloc(), LowHashBuilder);
-    let (first, second) = three_calls(&rt, &map);
-    let third = share_of(&rt, &other);
+    let (first, second) = three_calls(rt, &map);
+    let third = share_of(rt, &other);
     ends(
-        &rt,
+        rt,
         map,
         [first, second, third],
         Err(CloseFault::SharesDiffer),
@@ -94,33 +97,37 @@ fn a_share_of_another_map(rt: HostRuntime) {
 
 #[test]
 fn another_reply(rt: HostRuntime) {
+    let rt = &rt;
     let map = Numbers::with_hasher(rt.alloc(), LowHashBuilder);
-    let (mut first, second) = three_calls(&rt, &map);
-    assert_same(&rt, first.replace_receipt(1, 2, reply(None)), true);
-    ends(&rt, map, [first, second], Err(CloseFault::ReceiptsDiffer));
+    let (mut first, second) = three_calls(rt, &map);
+    assert_same(rt, first.replace_receipt(1, 2, reply(None)), true);
+    ends(rt, map, [first, second], Err(CloseFault::ReceiptsDiffer));
 }
 
 #[test]
 fn one_place_twice(rt: HostRuntime) {
+    let rt = &rt;
     let map = Numbers::with_hasher(rt.alloc(), LowHashBuilder);
-    let mut share = insert_and_look_twice(&rt, &map);
-    assert_same(&rt, share.replace_receipt(2, 1, reply(Some(0))), true);
-    ends(&rt, map, [share], Err(CloseFault::PlacesDiffer));
+    let mut share = insert_and_look_twice(rt, &map);
+    assert_same(rt, share.replace_receipt(2, 1, reply(Some(0))), true);
+    ends(rt, map, [share], Err(CloseFault::PlacesDiffer));
 }
 
 #[test]
 fn places_out_of_order(rt: HostRuntime) {
+    let rt = &rt;
     let map = Numbers::with_hasher(rt.alloc(), LowHashBuilder);
-    let mut share = insert_and_look_twice(&rt, &map);
-    assert_same(&rt, share.replace_receipt(1, 2, reply(Some(0))), true);
-    assert_same(&rt, share.replace_receipt(2, 1, reply(Some(0))), true);
-    ends(&rt, map, [share], Err(CloseFault::PlacesDiffer));
+    let mut share = insert_and_look_twice(rt, &map);
+    assert_same(rt, share.replace_receipt(1, 2, reply(Some(0))), true);
+    assert_same(rt, share.replace_receipt(2, 1, reply(Some(0))), true);
+    ends(rt, map, [share], Err(CloseFault::PlacesDiffer));
 }
 
 #[test]
 fn no_receipt_to_replace(rt: HostRuntime) {
+    let rt = &rt;
     let map = Numbers::with_hasher(rt.alloc(), LowHashBuilder);
-    let mut share = insert_and_look_twice(&rt, &map);
-    assert_same(&rt, share.replace_receipt(3, 0, reply(None)), false);
-    ends(&rt, map, [share], Ok((3, 1, Some(0))));
+    let mut share = insert_and_look_twice(rt, &map);
+    assert_same(rt, share.replace_receipt(3, 0, reply(None)), false);
+    ends(rt, map, [share], Ok((3, 1, Some(0))));
 }

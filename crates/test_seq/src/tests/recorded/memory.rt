@@ -1,6 +1,6 @@
 //! A call, a share and the end of a map when memory cannot be allocated.
 
-use super::super::assert_same_at;
+use super::super::{assert_same_at, metered};
 use flurry_base::hash::LowHashBuilder;
 use flurry_seq_recorded::{Book, CloseFault, KeptCall, KeptReply, Recorded, Share};
 use metered_alloc::MeteredAlloc;
@@ -122,7 +122,7 @@ fn refuse_each<A: Allocator + Copy, R: Wait + Abort>(
 
 #[test]
 fn each_request_of_a_call(rt: HostRuntime) {
-    let memory = MeteredAlloc::leak(rt.alloc()).expect(&rt, "memory for the allocator");
+    let memory = metered(&rt, rt.alloc());
     for row in [
         (KeptCall::Get(7), KeptReply::Value(None)),
         (KeptCall::GetKeyValue(7), KeptReply::Pair(None)),
@@ -160,10 +160,11 @@ fn end_is_refused<A: Allocator + Copy, R: Wait + Abort>(
 
 #[test]
 fn end_with_an_honest_share(rt: HostRuntime) {
-    let memory = MeteredAlloc::leak(rt.alloc()).expect(&rt, "memory for the allocator");
+    let rt = &rt;
+    let memory = metered(rt, rt.alloc());
     for k in 0..MAX_REQUESTS {
-        if !end_is_refused(&rt, memory, memory, k) {
-            assert_same_at(&rt, k, k > 0, true);
+        if !end_is_refused(rt, memory, memory, k) {
+            assert_same_at(rt, k, k > 0, true);
             return;
         }
     }
@@ -204,7 +205,7 @@ fn refuse_share<A: Allocator + Copy, R: Wait + Abort>(
 
 #[test]
 fn each_request_of_a_share(rt: HostRuntime) {
-    let memory = MeteredAlloc::leak(rt.alloc()).expect(&rt, "memory for the allocator");
+    let memory = metered(&rt, rt.alloc());
     refuse_share(&rt, memory, &Recorded::with_hasher(memory, LowHashBuilder));
 }
 
@@ -243,10 +244,11 @@ fn book_is_refused<A: Allocator + Copy>(
 
 #[test]
 fn each_request_of_a_book(rt: HostRuntime) {
-    let memory = MeteredAlloc::leak(rt.alloc()).expect(&rt, "memory for the allocator");
+    let rt = &rt;
+    let memory = metered(rt, rt.alloc());
     for k in 0..MAX_REQUESTS {
-        if !book_is_refused(&rt, memory, memory, k) {
-            assert_same_at(&rt, k, k > 0, true);
+        if !book_is_refused(rt, memory, memory, k) {
+            assert_same_at(rt, k, k > 0, true);
             return;
         }
     }

@@ -81,22 +81,24 @@ fn a_share_of_a_thread_is_missing(rt: HostRuntime) {
 
 #[test]
 fn another_reply_to_a_thread(rt: HostRuntime) {
+    let rt = &rt;
     let map = Recorded::with_hasher(rt.alloc(), LowHashBuilder);
-    let (mut first, second) = shares_of_threads(&rt, &map);
+    let (mut first, second) = shares_of_threads(rt, &map);
     let place = first.receipts().get(40).map_or(0, |receipt| receipt.place);
     let damaged = first.replace_receipt(40, place, KeptReply::Contains(true));
-    assert_same(&rt, damaged, true);
-    ends(&rt, map, [first, second], Err(CloseFault::ReceiptsDiffer));
+    assert_same(rt, damaged, true);
+    ends(rt, map, [first, second], Err(CloseFault::ReceiptsDiffer));
 }
 
 #[test]
 fn a_share_of_another_map_beside_threads(rt: HostRuntime) {
+    let rt = &rt;
     let map = Recorded::with_hasher(rt.alloc(), LowHashBuilder);
     let other = Recorded::with_hasher(rt.alloc(), LowHashBuilder);
-    let (first, second) = shares_of_threads(&rt, &map);
-    let third = share_of(&rt, &other);
+    let (first, second) = shares_of_threads(rt, &map);
+    let third = share_of(rt, &other);
     ends(
-        &rt,
+        rt,
         map,
         [first, second, third],
         Err(CloseFault::SharesDiffer),
@@ -115,19 +117,21 @@ fn set_place(rt: &impl Abort, share: &mut NumberShare, at: usize, place: usize) 
 
 #[test]
 fn one_place_twice_in_a_thread(rt: HostRuntime) {
+    let rt = &rt;
     let map = Recorded::with_hasher(rt.alloc(), LowHashBuilder);
-    let (mut first, second) = shares_of_threads(&rt, &map);
+    let (mut first, second) = shares_of_threads(rt, &map);
     let place = place_of(&first, 98);
-    set_place(&rt, &mut first, 99, place);
-    ends(&rt, map, [first, second], Err(CloseFault::PlacesDiffer));
+    set_place(rt, &mut first, 99, place);
+    ends(rt, map, [first, second], Err(CloseFault::PlacesDiffer));
 }
 
 #[test]
 fn places_of_a_thread_out_of_order(rt: HostRuntime) {
+    let rt = &rt;
     let map = Recorded::with_hasher(rt.alloc(), LowHashBuilder);
-    let (mut first, second) = shares_of_threads(&rt, &map);
+    let (mut first, second) = shares_of_threads(rt, &map);
     let (place, last) = (place_of(&first, 98), place_of(&first, 99));
-    set_place(&rt, &mut first, 98, last);
-    set_place(&rt, &mut first, 99, place);
-    ends(&rt, map, [first, second], Err(CloseFault::PlacesDiffer));
+    set_place(rt, &mut first, 98, last);
+    set_place(rt, &mut first, 99, place);
+    ends(rt, map, [first, second], Err(CloseFault::PlacesDiffer));
 }

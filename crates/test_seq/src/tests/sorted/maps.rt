@@ -45,8 +45,9 @@ fn the_first_of_two_keys_that_stood_before(rt: HostRuntime) {
 
 #[test]
 fn pairs_of_no_key_twice(rt: HostRuntime) {
-    assert_same(&rt, fault(&rt, [(2, 0), (1, 0), (0, 0)]), None);
-    assert_same(&rt, fault(&rt, []), None);
+    let rt = &rt;
+    assert_same(rt, fault(rt, [(2, 0), (1, 0), (0, 0)]), None);
+    assert_same(rt, fault(rt, []), None);
 }
 
 // The list of a hundred pairs, whose keys are those below a hundred, but for one at a place.
@@ -63,32 +64,35 @@ fn hundred(rt: &(impl Abort + AllocGlobal), place: usize, key: u64) -> Vec<(u64,
 // Each place of a longer list is looked at, and tells where a key stood before.
 #[test]
 fn a_hundred_pairs(rt: HostRuntime) {
+    let rt = &rt;
     for place in [6, 50, 99] {
-        let fault = from_pairs(SortedPairs(hundred(&rt, place, 3)), LowHashBuilder).err();
-        assert_same(&rt, fault, Some(FromPairsError::DoubledKey(place)));
+        let fault = from_pairs(SortedPairs(hundred(rt, place, 3)), LowHashBuilder).err();
+        assert_same(rt, fault, Some(FromPairsError::DoubledKey(place)));
     }
-    let map = from_pairs(SortedPairs(hundred(&rt, 50, 50)), LowHashBuilder);
-    assert_same(&rt, map.map(|map| map.len()).ok(), Some(100));
+    let map = from_pairs(SortedPairs(hundred(rt, 50, 50)), LowHashBuilder);
+    assert_same(rt, map.map(|map| map.len()).ok(), Some(100));
 }
 
 #[test]
 fn there_and_back(rt: HostRuntime) {
-    let map = five(&rt);
-    let list = listed(&map).expect(&rt, "memory for the list");
+    let rt = &rt;
+    let map = five(rt);
+    let list = listed(&map).expect(rt, "memory for the list");
     let wanted = Vec::from_array(rt.alloc(), [(0u64, 4u64), (1, 3), (2, 2), (3, 1), (4, 0)]);
-    assert_same(&rt, Some(&list.0), wanted.ok().as_ref());
-    let back = from_pairs(list, LowHashBuilder).expect(&rt, "memory for the map");
-    assert_same(&rt, back == map, true);
+    assert_same(rt, Some(&list.0), wanted.ok().as_ref());
+    let back = from_pairs(list, LowHashBuilder).expect(rt, "memory for the map");
+    assert_same(rt, back == map, true);
 }
 
 #[test]
 fn any_order_is_read(rt: HostRuntime) {
+    let rt = &rt;
     let list = Vec::from_array(rt.alloc(), [(2u64, 20u64), (0, 0), (1, 10)]).expect(
-        &rt,
+        rt,
         "memory for the pairs",
     );
-    let map = from_pairs(SortedPairs(list), LowHashBuilder).expect(&rt, "memory for the map");
-    assert_same(&rt, map == map_of(&rt, [(0, 0), (1, 10), (2, 20)]), true);
+    let map = from_pairs(SortedPairs(list), LowHashBuilder).expect(rt, "memory for the map");
+    assert_same(rt, map == map_of(rt, [(0, 0), (1, 10), (2, 20)]), true);
 }
 
 // Checks the text of a fault.

@@ -26,9 +26,10 @@ fn list_of<const N: usize>(
 
 #[test]
 fn an_element_that_comes_twice(rt: HostRuntime) {
-    let made = from_items(list_of(&rt, [2, 1, 2]), LowHashBuilder);
-    let set = made.expect(&rt, "memory for the set");
-    assert_same(&rt, set.len(), 2);
-    let list = listed(&set).expect(&rt, "memory for the list");
-    assert_same(&rt, list, list_of(&rt, [1, 2]));
+    let rt = &rt;
+    let made = from_items(list_of(rt, [2, 1, 2]), LowHashBuilder);
+    let set = made.expect(rt, "memory for the set");
+    assert_same(rt, set.len(), 2);
+    let list = listed(&set).expect(rt, "memory for the list");
+    assert_same(rt, list, list_of(rt, [1, 2]));
 }

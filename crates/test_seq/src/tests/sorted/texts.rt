@@ -32,20 +32,22 @@ fn read(rt: &impl Abort, alloc: Global, text: &str) -> SortedPairs<u64, u64> {
 
 #[test]
 fn the_text_of_a_map_ascends(rt: HostRuntime) {
-    let list = listed(&rt, &map_of(&rt, [(1, 3), (0, 4)]));
-    let text = text_of(&rt, rt.alloc(), &list);
-    assert_same(&rt, text.as_str(), "[[0,4],[1,3]]");
+    let rt = &rt;
+    let list = listed(rt, &map_of(rt, [(1, 3), (0, 4)]));
+    let text = text_of(rt, rt.alloc(), &list);
+    assert_same(rt, text.as_str(), "[[0,4],[1,3]]");
 }
 
 #[test]
 fn a_map_through_text(rt: HostRuntime) {
-    let map = five(&rt);
-    let list = listed(&rt, &map);
-    let text = text_of(&rt, rt.alloc(), &list);
-    let again = read(&rt, rt.alloc(), text.as_str());
-    assert_same(&rt, &again, &list);
-    let back = from_pairs(again, LowHashBuilder).expect(&rt, "memory for the map");
-    assert_same(&rt, back == map, true);
+    let rt = &rt;
+    let map = five(rt);
+    let list = &listed(rt, &map);
+    let text = text_of(rt, rt.alloc(), list);
+    let again = read(rt, rt.alloc(), text.as_str());
+    assert_same(rt, &again, list);
+    let back = from_pairs(again, LowHashBuilder).expect(rt, "memory for the map");
+    assert_same(rt, back == map, true);
 }
 
 #[test]
@@ -57,11 +59,12 @@ fn a_text_with_a_key_twice(rt: HostRuntime) {
 
 #[test]
 fn malformed_texts(rt: HostRuntime) {
-    assert_same(&rt, is_no_list(rt.alloc(), "[[0,4],[1,3]]"), false);
-    assert_same(&rt, is_no_list(rt.alloc(), "[[0,4],[1,3]"), true);
-    assert_same(&rt, is_no_list(rt.alloc(), "[[0,4],[1]]"), true);
-    assert_same(&rt, is_no_list(rt.alloc(), "[[0,\"4\"]]"), true);
-    assert_same(&rt, is_no_list(rt.alloc(), "{\"0\":4}"), true);
+    let rt = &rt;
+    assert_same(rt, is_no_list(rt.alloc(), "[[0,4],[1,3]]"), false);
+    assert_same(rt, is_no_list(rt.alloc(), "[[0,4],[1,3]"), true);
+    assert_same(rt, is_no_list(rt.alloc(), "[[0,4],[1]]"), true);
+    assert_same(rt, is_no_list(rt.alloc(), "[[0,\"4\"]]"), true);
+    assert_same(rt, is_no_list(rt.alloc(), "{\"0\":4}"), true);
 }
 
 // Returns the set that a text gives.
@@ -72,21 +75,23 @@ fn read_set(rt: &impl Abort, alloc: Global, text: &str) -> SeqSet<u64, LowHashBu
 
 #[test]
 fn a_set_through_text(rt: HostRuntime) {
-    let set = read_set(&rt, rt.alloc(), "[2,1,2]");
-    let list = to_sorted_items(&set).expect(&rt, "memory for the list");
-    let text = serde_json::to_string(rt.alloc(), &list).expect(&rt, "a text");
-    assert_same(&rt, text.as_str(), "[1,2]");
+    let rt = &rt;
+    let set = read_set(rt, rt.alloc(), "[2,1,2]");
+    let list = to_sorted_items(&set).expect(rt, "memory for the list");
+    let text = serde_json::to_string(rt.alloc(), &list).expect(rt, "a text");
+    assert_same(rt, text.as_str(), "[1,2]");
 }
 
 // Lists that are read from values instead of texts.
 #[test]
 fn lists_from_values(rt: HostRuntime) {
-    let value = serde_json::from_str(rt.alloc(), "[[2,1],[0,0]]").expect(&rt, "a value");
+    let rt = &rt;
+    let value = serde_json::from_str(rt.alloc(), "[[2,1],[0,0]]").expect(rt, "a value");
     let pairs: SortedPairs<u64, u64> = serde_json::from_value(rt.alloc(), value).expect(
-        &rt, "a list",
+        rt, "a list",
     );
-    assert_same(&rt, pairs.0.as_slice(), [(2u64, 1u64), (0, 0)].as_slice());
-    let value = serde_json::from_str(rt.alloc(), "[2,1,2]").expect(&rt, "a value");
-    let items: SortedItems<u64> = serde_json::from_value(rt.alloc(), value).expect(&rt, "a list");
-    assert_same(&rt, items.0.as_slice(), [2u64, 1, 2].as_slice());
+    assert_same(rt, pairs.0.as_slice(), [(2u64, 1u64), (0, 0)].as_slice());
+    let value = serde_json::from_str(rt.alloc(), "[2,1,2]").expect(rt, "a value");
+    let items: SortedItems<u64> = serde_json::from_value(rt.alloc(), value).expect(rt, "a list");
+    assert_same(rt, items.0.as_slice(), [2u64, 1, 2].as_slice());
 }

@@ -1,22 +1,28 @@
 //! Histories on which there is no verdict.
 
-use super::{get, insert, remove, verdict};
-use std::alloc::AllocError;
+use super::{check_lawful, get, insert, remove, verdict};
+use std::alloc::{AllocError, Global};
+use std::process::Abort;
+use stress_judge::calls::Event;
 use stress_judge::judging::Verdict;
+
+// Checks that there is no verdict on the calls.
+fn check_not_judged(rt: &impl Abort, alloc: Global, events: &[Event]) {
+    let is_not_judged = verdict(rt, alloc, events) == Verdict::NotJudged;
+    assert!(rt; is_not_judged, "there is a verdict");
+}
 
 // A thread makes one call after another.
 #[test]
 fn two_calls_of_one_thread(rt: HostRuntime) {
-    let found = verdict(&rt, rt.alloc(), &[get(0, 1, 3, None), get(0, 2, 4, None)]);
-    assert!(rt; found == Verdict::NotJudged);
+    let events = [get(0, 1, 3, None), get(0, 2, 4, None)];
+    check_not_judged(&rt, rt.alloc(), &events);
 }
 
 #[test]
 fn a_thread_too_many(rt: HostRuntime) {
-    let found = verdict(&rt, rt.alloc(), &[get(64, 1, 2, None)]);
-    assert!(rt; found == Verdict::NotJudged);
-    let last = verdict(&rt, rt.alloc(), &[get(63, 1, 2, None)]);
-    assert!(rt; last == Verdict::Lawful);
+    check_not_judged(&rt, rt.alloc(), &[get(64, 1, 2, None)]);
+    check_lawful(&rt, rt.alloc(), &[get(63, 1, 2, None)]);
 }
 
 // Fourteen insertions and fourteen removals are open at the same time, so that more sets of them are possible than the judge looks at.
@@ -28,7 +34,6 @@ fn too_many_orders(rt: HostRuntime) -> Result<(), AllocError> {
         events.push(remove(20 + thread, 20 + thread, 200 + thread, Some(thread)))?;
     }
     events.push(get(50, 50, 60, Some(1000)))?;
-    let found = verdict(&rt, rt.alloc(), &events);
-    assert!(rt; found == Verdict::NotJudged);
+    check_not_judged(&rt, rt.alloc(), &events);
     Ok(())
 }

@@ -34,8 +34,9 @@ fn check_writers(
 // The stale read alone is left of seven calls, and the value that it should have found. The calls that wrote either value are told beside.
 #[test]
 fn a_stale_read_alone(rt: HostRuntime) {
+    let rt = &rt;
     let stale = get(2, 9, 12, Some(5));
-    let events = [
+    let events = &[
         insert(0, 1, 2, 5, None),
         get(1, 3, 4, Some(5)),
         insert(1, 5, 6, 6, Some(5)),
@@ -44,26 +45,27 @@ fn a_stale_read_alone(rt: HostRuntime) {
         get(1, 10, 11, Some(6)),
         remove(0, 13, 14, Some(6)),
     ];
-    let fault = shrunk(&rt, rt.alloc(), &events);
-    check_left(&rt, &fault, Some(6), &[stale]);
+    let fault = shrunk(rt, rt.alloc(), events);
+    check_left(rt, &fault, Some(6), &[stale]);
     assert!(rt; fault.until == 12);
     let both = [insert(0, 1, 2, 5, None), insert(1, 5, 6, 6, Some(5))];
-    check_writers(&rt, rt.alloc(), &events, &fault, &both);
+    check_writers(rt, rt.alloc(), events, &fault, &both);
 }
 
 // Two insertions overlap and both find no value. When the first ends, no order has the second before it; so the second alone is left.
 #[test]
 fn the_second_of_two_first_insertions(rt: HostRuntime) {
+    let rt = &rt;
     let one = insert(0, 5, 8, 6, None);
     let other = insert(1, 6, 9, 7, None);
-    let events = [
+    let events = &[
         insert(0, 1, 2, 5, None),
         remove(0, 3, 4, Some(5)),
         one,
         other,
         event(2, 7, 10, Call::ContainsKey, Reply::Presence(true)),
     ];
-    let fault = shrunk(&rt, rt.alloc(), &events);
-    check_left(&rt, &fault, Some(6), &[other]);
-    check_writers(&rt, rt.alloc(), &events, &fault, &[one]);
+    let fault = shrunk(rt, rt.alloc(), events);
+    check_left(rt, &fault, Some(6), &[other]);
+    check_writers(rt, rt.alloc(), events, &fault, &[one]);
 }
