@@ -1,7 +1,7 @@
 //! Calls that change a pair by a function, which is called while the bin of the key is locked.
 
 use super::workers::insert_all;
-use super::{TURNS, assert_same, number_at, taken};
+use super::{TURNS, assert_same, insert, number_at, taken};
 use flurry_base::Change;
 use flurry_base::hash::LowHashBuilder;
 use flurry_shared::{HashMap, HashMapRef};
@@ -37,15 +37,14 @@ fn what_was_done(change: Change<u64>) -> Done {
 fn three_pairs<R: Abort + Wait>(rt: &R, alloc: Global) -> Numbers {
     let map = HashMap::with_hasher(alloc, LowHashBuilder);
     for key in 1..4u64 {
-        map.insert(rt, key, key.wrapping_mul(10))
-            .expect(rt, "memory");
+        insert(rt, &map, key, key.wrapping_mul(10));
     }
     map
 }
 
 // Asserts the value at a key, and that the map has so many pairs.
 fn assert_stands<R: Abort + Wait>(rt: &R, map: &Numbers, key: u64, value: Option<u64>, len: usize) {
-    let seen = number_at(rt, map, &key).expect(rt, "memory");
+    let seen = number_at(rt, map, key);
     assert_same(rt, (seen, map.len(rt)), (value, len));
 }
 
@@ -66,26 +65,28 @@ fn compute<R: Abort + Wait>(
 
 #[test]
 fn computations_at_present_and_absent_keys(rt: HostRuntime) {
-    let map = three_pairs(&rt, rt.alloc());
+    let rt = &rt;
+    let map = &three_pairs(rt, rt.alloc());
     for (answer, before, wanted, len) in [
         (Some(21), Some(20), Done::Changed(21), 3),
         (None, Some(21), Done::Removed(21), 2),
         (None, None, Done::Absent, 2),
         (Some(22), None, Done::Added(22), 3),
     ] {
-        let seen = compute(&rt, &map, 2, answer);
-        assert_same(&rt, seen, (Some((2, before)), wanted));
-        assert_stands(&rt, &map, 2, answer, len);
+        let seen = compute(rt, map, 2, answer);
+        assert_same(rt, seen, (Some((2, before)), wanted));
+        assert_stands(rt, map, 2, answer, len);
     }
 }
 
 // On a map that has no table yet.
 #[test]
 fn computations_on_a_new_map(rt: HostRuntime) {
-    let map = HashMap::with_hasher(rt.alloc(), LowHashBuilder);
-    assert_same(&rt, compute(&rt, &map, 2, None).1, Done::Absent);
-    assert_same(&rt, compute(&rt, &map, 2, Some(20)).1, Done::Added(20));
-    assert_stands(&rt, &map, 2, Some(20), 1);
+    let rt = &rt;
+    let map = &HashMap::with_hasher(rt.alloc(), LowHashBuilder);
+    assert_same(rt, compute(rt, map, 2, None).1, Done::Absent);
+    assert_same(rt, compute(rt, map, 2, Some(20)).1, Done::Added(20));
+    assert_stands(rt, map, 2, Some(20), 1);
 }
 
 // Merges a value at a key, with the answer. Returns the values on which the function was called, if it was, and what was done.
@@ -106,15 +107,16 @@ fn merge<R: Abort + Wait>(
 
 #[test]
 fn merges_at_present_and_absent_keys(rt: HostRuntime) {
-    let map = three_pairs(&rt, rt.alloc());
+    let rt = &rt;
+    let map = &three_pairs(rt, rt.alloc());
     for (value, answer, called, wanted, stands, len) in [
         (5, Some(25), Some((20, 5)), Done::Changed(25), Some(25), 3),
         (6, None, Some((25, 6)), Done::Removed(25), None, 2),
         (7, None, None, Done::Added(7), Some(7), 3),
     ] {
-        let seen = merge(&rt, &map, 2, value, answer);
-        assert_same(&rt, seen, (called, wanted));
-        assert_stands(&rt, &map, 2, stands, len);
+        let seen = merge(rt, map, 2, value, answer);
+        assert_same(rt, seen, (called, wanted));
+        assert_stands(rt, map, 2, stands, len);
     }
 }
 
@@ -135,11 +137,12 @@ fn update<R: Abort + Wait>(
 
 #[test]
 fn updates_of_present_and_absent_keys(rt: HostRuntime) {
-    let map = three_pairs(&rt, rt.alloc());
-    assert_same(&rt, update(&rt, &map, 2, 21), (Some((2, 20)), Some(21)));
-    assert_stands(&rt, &map, 2, Some(21), 3);
-    assert_same(&rt, update(&rt, &map, 4, 40), (None, None));
-    assert_stands(&rt, &map, 4, None, 3);
+    let rt = &rt;
+    let map = &three_pairs(rt, rt.alloc());
+    assert_same(rt, update(rt, map, 2, 21), (Some((2, 20)), Some(21)));
+    assert_stands(rt, map, 2, Some(21), 3);
+    assert_same(rt, update(rt, map, 4, 40), (None, None));
+    assert_stands(rt, map, 4, None, 3);
 }
 
 // Removes a key if the test says so. Returns the pair on which the test was called, if it was, and the value that was removed.
@@ -159,16 +162,13 @@ fn remove_if<R: Wait>(
 
 #[test]
 fn removals_if_a_test_passes(rt: HostRuntime) {
-    let map = three_pairs(&rt, rt.alloc());
-    assert_same(&rt, remove_if(&rt, &map, 2, false), (Some((2, 20)), None));
-    assert_stands(&rt, &map, 2, Some(20), 3);
-    assert_same(
-        &rt,
-        remove_if(&rt, &map, 2, true),
-        (Some((2, 20)), Some(20)),
-    );
-    assert_stands(&rt, &map, 2, None, 2);
-    assert_same(&rt, remove_if(&rt, &map, 2, true), (None, None));
+    let rt = &rt;
+    let map = &three_pairs(rt, rt.alloc());
+    assert_same(rt, remove_if(rt, map, 2, false), (Some((2, 20)), None));
+    assert_stands(rt, map, 2, Some(20), 3);
+    assert_same(rt, remove_if(rt, map, 2, true), (Some((2, 20)), Some(20)));
+    assert_stands(rt, map, 2, None, 2);
+    assert_same(rt, remove_if(rt, map, 2, true), (None, None));
 }
 
 // Replaces the value of a key if the test says so. Returns the pair on which the test was called, if it was, and the old value.
@@ -189,16 +189,13 @@ fn replace_if<R: Abort + Wait>(
 
 #[test]
 fn replacements_if_a_test_passes(rt: HostRuntime) {
-    let map = three_pairs(&rt, rt.alloc());
-    assert_same(&rt, replace_if(&rt, &map, 2, false), (Some((2, 20)), None));
-    assert_stands(&rt, &map, 2, Some(20), 3);
-    assert_same(
-        &rt,
-        replace_if(&rt, &map, 2, true),
-        (Some((2, 20)), Some(20)),
-    );
-    assert_stands(&rt, &map, 2, Some(99), 3);
-    assert_same(&rt, replace_if(&rt, &map, 4, true), (None, None));
+    let rt = &rt;
+    let map = &three_pairs(rt, rt.alloc());
+    assert_same(rt, replace_if(rt, map, 2, false), (Some((2, 20)), None));
+    assert_stands(rt, map, 2, Some(20), 3);
+    assert_same(rt, replace_if(rt, map, 2, true), (Some((2, 20)), Some(20)));
+    assert_stands(rt, map, 2, Some(99), 3);
+    assert_same(rt, replace_if(rt, map, 4, true), (None, None));
 }
 
 // Adds the key 4 by a computation, and changes its value by a merge.
@@ -223,9 +220,10 @@ fn replaces_by_view<R: Abort + Wait>(rt: &R, view: &HashMapRef<'_, R, u64, u64, 
 // The calls of a view are those of its map.
 #[test]
 fn calls_of_a_view(rt: HostRuntime) {
-    let map = three_pairs(&rt, rt.alloc());
-    changes_by_view(&rt, &map.pin(&rt));
-    replaces_by_view(&rt, &map.pin(&rt))
+    let rt = &rt;
+    let map = three_pairs(rt, rt.alloc());
+    changes_by_view(rt, &map.pin(rt));
+    replaces_by_view(rt, &map.pin(rt))
 }
 
 // Returns what the function of an insertion of a key returned, if it was called, and the number that then stands.
@@ -246,14 +244,15 @@ fn get_or_insert<R: Abort + Wait>(
 // The function is called at an absent key alone.
 #[test]
 fn insertions_of_what_a_function_returns(rt: HostRuntime) {
-    let map = three_pairs(&rt, rt.alloc());
+    let rt = &rt;
+    let map = three_pairs(rt, rt.alloc());
     for (key, number, wanted) in [
         (2, 99, (None, 20)),
         (4, 99, (Some(99), 99)),
         (4, 98, (None, 99)),
     ] {
-        let seen = get_or_insert(&rt, &map, key, number);
-        assert_same(&rt, (key, seen), (key, wanted));
+        let seen = get_or_insert(rt, &map, key, number);
+        assert_same(rt, (key, seen), (key, wanted));
     }
 }
 
@@ -372,9 +371,9 @@ fn add_in_threads<A: Allocator + Copy + Send + Sync, R: Abort + Threads + Wait +
 // No addition is lost, whoever adds the key and by whichever call.
 #[test]
 fn four_threads_add_to_the_same_numbers(rt: HostRuntime) {
-    let map: Numbers = HashMap::with_hasher(rt.alloc(), LowHashBuilder);
-    add_in_threads(&rt, &map);
+    let map: &Numbers = &HashMap::with_hasher(rt.alloc(), LowHashBuilder);
+    add_in_threads(&rt, map);
     for key in 0..8u64 {
-        assert_stands(&rt, &map, key, Some(1000), 2000);
+        assert_stands(&rt, map, key, Some(1000), 2000);
     }
 }

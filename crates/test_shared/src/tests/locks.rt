@@ -71,7 +71,8 @@ fn a_table_grows_between_lengths(rt: HostRuntime) {
 
 #[test]
 fn a_thread_owns_locks(rt: HostRuntime) {
+    let rt = &rt;
     let locks: Locks<u64, u64, Global> = Locks::new(rt.alloc());
-    put_in_threads(&rt, &locks, 25);
-    assert_same(&rt, count_in_thread(&rt, locks, 200), Some(100));
+    put_in_threads(rt, &locks, 25);
+    assert_same(rt, count_in_thread(rt, locks, 200), Some(100));
 }

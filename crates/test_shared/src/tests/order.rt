@@ -2,7 +2,7 @@
 
 use super::threads::is_set_in_time;
 use super::workers::{count_own, insert_all, remove_even};
-use super::{assert_same, number_at};
+use super::{assert_same, insert, number_at};
 use flurry_base::hash::{KeyHasher, LowHashBuilder};
 use flurry_shared::HashMap;
 use std::alloc::Allocator;
@@ -50,12 +50,12 @@ fn hold_and_insert<
     A: Allocator + Copy + Send + Sync,
     R: Threads + Wait + Sync,
 >(rt: &R, map: &HashMap<u64, u64, S, A>) -> (bool, bool) {
-    let held = AtomicBool::new(false);
-    let inserted = AtomicBool::new(false);
+    let held = &AtomicBool::new(false);
+    let inserted = &AtomicBool::new(false);
     thread::join(
         rt,
-        || hold_bin(rt, map, &held, &inserted),
-        || insert_beside(rt, map, &held, &inserted),
+        || hold_bin(rt, map, held, inserted),
+        || insert_beside(rt, map, held, inserted),
     )
 }
 
@@ -64,10 +64,10 @@ fn holds_two_bins<R: Abort + Threads + Wait + Sync>(
     rt: &R,
     map: &HashMap<u64, u64, LowHashBuilder>,
 ) {
-    map.insert(rt, 1, 11).expect(rt, "memory");
-    map.insert(rt, 2, 12).expect(rt, "memory");
+    insert(rt, map, 1, 11);
+    insert(rt, map, 2, 12);
     assert_same(rt, hold_and_insert(rt, map), (true, true));
-    assert_same(rt, number_at(rt, map, &2).expect(rt, "memory"), Some(22));
+    assert_same(rt, number_at(rt, map, 2), Some(22));
 }
 
 // A key is inserted while another thread holds the bin of another key.
@@ -129,16 +129,16 @@ fn in_thread<
     A: Allocator + Copy + Send + Sync + 'static,
     R: Abort + Threads + Wait + Copy + Send + 'static,
 >(rt: R, alloc: A, map: &Arc<HashMap<u64, u64, S, A>, A>, phase: Phase) -> Option<bool> {
-    let done = Arc::new(alloc, AtomicBool::new(false)).expect(&rt, "memory");
+    let done = &Arc::new(alloc, AtomicBool::new(false)).expect(&rt, "memory");
     let theirs = Arc::try_clone(map).expect(&rt, "memory");
-    let flag = Arc::try_clone(&done).expect(&rt, "memory");
+    let flag = Arc::try_clone(done).expect(&rt, "memory");
     let child = thread::spawn(&rt, move || {
         let answer = run_phase(&rt, &theirs, phase);
         flag.store(true, Ordering::SeqCst);
         answer
     });
     let child = child.ok().expect(&rt, "a thread");
-    if !is_set_in_time(&done) {
+    if !is_set_in_time(done) {
         return None;
     }
     Some(child.join(&rt))

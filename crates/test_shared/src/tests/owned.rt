@@ -1,7 +1,7 @@
 //! An owned map that threads share, and that becomes an owned map again.
 
 use super::workers::{count_own, insert_all, remove_even};
-use super::{assert_same, taken};
+use super::{assert_same, insert};
 use flurry_base::hash::{DefaultHashBuilder, KeyHasher, LowHashBuilder, ZeroHashBuilder};
 use flurry_seq::SeqMap;
 use flurry_shared::HashMap;
@@ -64,23 +64,25 @@ fn halve_and_own<S: KeyHasher<u64> + Drop, R: Abort + Wait>(
 
 #[test]
 fn owned_and_shared_and_owned_again(rt: HostRuntime) {
-    let map = owned(&rt, rt.alloc(), DefaultHashBuilder::default(), 10_000);
-    halve_and_own(&rt, shared(&rt, map), 10_000);
-    let map = owned(&rt, rt.alloc(), ZeroHashBuilder, 100);
-    halve_and_own(&rt, shared(&rt, map), 100);
+    let rt = &rt;
+    let map = owned(rt, rt.alloc(), DefaultHashBuilder::default(), 10_000);
+    halve_and_own(rt, shared(rt, map), 10_000);
+    let map = owned(rt, rt.alloc(), ZeroHashBuilder, 100);
+    halve_and_own(rt, shared(rt, map), 100);
     for count in 0..2u64 {
-        let map = owned(&rt, rt.alloc(), LowHashBuilder, count);
-        halve_and_own(&rt, shared(&rt, map), count);
+        let map = owned(rt, rt.alloc(), LowHashBuilder, count);
+        halve_and_own(rt, shared(rt, map), count);
     }
 }
 
 // The shared map grows from the owned map's table on.
 #[test]
 fn a_shared_map_of_an_owned_one_grows(rt: HostRuntime) {
-    let map = shared(&rt, owned(&rt, rt.alloc(), LowHashBuilder, 100));
-    assert_same(&rt, insert_all(&rt, &map, 100, 1000), 0);
-    assert_same(&rt, map.len(&rt), 1000);
-    assert_same(&rt, count_own(&rt, &map, 0, 1000), 1000);
+    let rt = &rt;
+    let map = &shared(rt, owned(rt, rt.alloc(), LowHashBuilder, 100));
+    assert_same(rt, insert_all(rt, map, 100, 1000), 0);
+    assert_same(rt, map.len(rt), 1000);
+    assert_same(rt, count_own(rt, map, 0, 1000), 1000);
 }
 
 // Returns a clone of the `Arc` of the value of the key 0.
@@ -95,27 +97,27 @@ fn set_while_shared<R: Abort + Wait>(
     map: SeqMap<u64, u64, LowHashBuilder>,
 ) -> SeqMap<u64, u64, LowHashBuilder> {
     let map = shared(rt, map);
-    let old = map.insert(rt, 0, 7).expect(rt, "memory");
-    assert_same(rt, taken(old), Some(0));
+    assert_same(rt, insert(rt, &map, 0, 7), Some(0));
     map.into_seq(rt).expect(rt, "memory")
 }
 
 // A value that was returned before stays with its owner.
 #[test]
 fn a_value_has_its_other_owner_still(rt: HostRuntime) {
-    let map = owned(&rt, rt.alloc(), LowHashBuilder, 1);
-    let value = value_at_0(&rt, &map);
-    let map = set_while_shared(&rt, map);
-    assert_same(&rt, map.get(&0).map(|value| **value), Some(7));
-    assert_same(&rt, *value, 0);
+    let rt = &rt;
+    let map = owned(rt, rt.alloc(), LowHashBuilder, 1);
+    let value = value_at_0(rt, &map);
+    let map = set_while_shared(rt, map);
+    assert_same(rt, map.get(&0).map(|value| **value), Some(7));
+    assert_same(rt, *value, 0);
 }
 
 // What was written to a shared map of an owned one goes by a `retain`, as in any other.
 #[test]
 fn a_written_pair_of_an_owned_map_goes(rt: HostRuntime) {
-    let map = shared(&rt, owned(&rt, rt.alloc(), LowHashBuilder, 3));
-    let old = map.insert(&rt, 1, 7).expect(&rt, "memory");
-    assert_same(&rt, taken(old), Some(1));
-    map.retain(&rt, |_, _| false).expect(&rt, "memory");
-    assert_same(&rt, map.is_empty(&rt), true);
+    let rt = &rt;
+    let map = &shared(rt, owned(rt, rt.alloc(), LowHashBuilder, 3));
+    assert_same(rt, insert(rt, map, 1, 7), Some(1));
+    map.retain(rt, |_, _| false).expect(rt, "memory");
+    assert_same(rt, map.is_empty(rt), true);
 }

@@ -1,8 +1,8 @@
 //! Calls of a shared map in which a request for memory fails.
 
-use super::assert_same;
 use super::threads::insert_in_threads;
 use super::workers::count_own;
+use super::{Memory, assert_same, insert, metered};
 use flurry_base::hash::{DefaultHashBuilder, LowHashBuilder};
 use flurry_seq::SeqMap;
 use flurry_shared::HashMap;
@@ -11,8 +11,6 @@ use std::alloc::{AllocError, Allocator, Global};
 use std::process::Abort;
 use std::sync::Wait;
 use std::thread::Threads;
-
-type Memory = &'static MeteredAlloc<Global>;
 
 // A map of numbers. Its allocator is a parameter, because a proof over `Memory` would have to unfold it in each step.
 type Numbers<A> = HashMap<u64, u64, LowHashBuilder, A>;
@@ -44,7 +42,7 @@ enum Call {
 }
 
 // Returns whether a call succeeded. What it returned is dropped here, since each drop in the body of the calls would make its proof longer.
-fn succeeded<T: Drop>(answer: Result<T, AllocError>) -> bool {
+pub(super) fn succeeded<T: Drop>(answer: Result<T, AllocError>) -> bool {
     answer.is_ok()
 }
 
@@ -73,7 +71,7 @@ fn is_done<A: Allocator + Copy, R: Wait>(rt: &R, map: &Numbers<A>, call: Call) -
 // Inserts the keys below `count`, each with itself as its value.
 fn fill<A: Allocator + Copy, R: Abort + Wait>(rt: &R, map: &Numbers<A>, count: u64) {
     for key in 0..count {
-        map.insert(rt, key, key).expect(rt, "memory for the pair");
+        insert(rt, map, key, key);
     }
 }
 
@@ -137,7 +135,7 @@ fn refuse_each<R: Abort + Wait>(rt: &R, memory: Memory, (keys, call): (u64, Call
 // growth, or five growths from 16 bins.
 #[test]
 fn each_request_of_a_call(rt: HostRuntime) {
-    let memory = MeteredAlloc::leak(rt.alloc()).expect(&rt, "memory for the allocator");
+    let memory = metered(&rt, rt.alloc());
     for (keys, call, requests) in [
         (0, Call::Insert, 5),
         (1, Call::Insert, 3),
@@ -158,7 +156,7 @@ fn each_request_of_a_call(rt: HostRuntime) {
 // takes no more than a first table.
 #[test]
 fn each_request_of_a_call_by_a_function(rt: HostRuntime) {
-    let memory = MeteredAlloc::leak(rt.alloc()).expect(&rt, "memory for the allocator");
+    let memory = metered(&rt, rt.alloc());
     for (keys, call, requests) in [
         (0, Call::ComputeNew, 5),
         (1, Call::ComputeNew, 3),
@@ -184,10 +182,11 @@ fn each_request_of_a_call_by_a_function(rt: HostRuntime) {
 // If memory for the larger table, its board or a seat cannot be allocated, the insertion is done in the old table.
 #[test]
 fn a_larger_table_of_an_insertion(rt: HostRuntime) {
-    let memory = MeteredAlloc::leak(rt.alloc()).expect(&rt, "memory for the allocator");
+    let rt = &rt;
+    let memory = metered(rt, rt.alloc());
     for k in 3..10u64 {
-        let (seen, _) = call_without(&rt, memory, (11, Call::Insert), k);
-        assert_same(&rt, (k, seen), (k, (true, true, true, 12)));
+        let (seen, _) = call_without(rt, memory, (11, Call::Insert), k);
+        assert_same(rt, (k, seen), (k, (true, true, true, 12)));
     }
 }
 
@@ -195,12 +194,13 @@ fn a_larger_table_of_an_insertion(rt: HostRuntime) {
 // next attempt makes all of its requests.
 #[test]
 fn a_refused_growth_leaves_nothing(rt: HostRuntime) {
-    let memory = MeteredAlloc::leak(rt.alloc()).expect(&rt, "memory for the allocator");
+    let rt = &rt;
+    let memory = metered(rt, rt.alloc());
     for k in 0..14u64 {
         let asked = if k < 7 { 14 } else { 7 };
-        let (seen, again) = call_without(&rt, memory, (11, Call::Reserve(1)), k);
-        assert_same(&rt, (k, seen), (k, (true, false, true, 11)));
-        assert_same(&rt, (k, again), (k, (true, asked)));
+        let (seen, again) = call_without(rt, memory, (11, Call::Reserve(1)), k);
+        assert_same(rt, (k, seen), (k, (true, false, true, 11)));
+        assert_same(rt, (k, again), (k, (true, asked)));
     }
 }
 
@@ -221,28 +221,30 @@ fn map_with_room_by_default<A: Allocator + Copy>(
 
 #[test]
 fn a_map_with_room(rt: HostRuntime) {
-    let memory = MeteredAlloc::leak(rt.alloc()).expect(&rt, "memory for the allocator");
+    let rt = &rt;
+    let memory = metered(rt, rt.alloc());
     for k in 0..3u64 {
         memory.refuse_at(k);
-        assert_same(&rt, (k, succeeded(map_with_room(memory, 5))), (k, k == 2));
+        assert_same(rt, (k, succeeded(map_with_room(memory, 5))), (k, k == 2));
         memory.refuse_nothing();
-        assert_same(&rt, memory.live_blocks(), 0);
+        assert_same(rt, memory.live_blocks(), 0);
     }
 }
 
 // A map with room and the default hasher, which takes no memory.
 #[test]
 fn a_map_with_room_by_default(rt: HostRuntime) {
-    let memory = MeteredAlloc::leak(rt.alloc()).expect(&rt, "memory for the allocator");
+    let rt = &rt;
+    let memory = metered(rt, rt.alloc());
     for k in 0..3u64 {
         memory.refuse_at(k);
         assert_same(
-            &rt,
+            rt,
             (k, succeeded(map_with_room_by_default(memory))),
             (k, k == 2),
         );
         memory.refuse_nothing();
-        assert_same(&rt, memory.live_blocks(), 0);
+        assert_same(rt, memory.live_blocks(), 0);
     }
 }
 
@@ -276,11 +278,12 @@ fn share_without<R: Abort + Wait>(rt: &R, memory: Memory, k: u64) {
 // Memory for each of the two tables of a shared map cannot be allocated.
 #[test]
 fn the_tables_of_a_shared_map(rt: HostRuntime) {
-    let memory = MeteredAlloc::leak(rt.alloc()).expect(&rt, "memory for the allocator");
+    let rt = &rt;
+    let memory = metered(rt, rt.alloc());
     for k in 0..2u64 {
-        share_without(&rt, memory, k);
+        share_without(rt, memory, k);
     }
-    assert_same(&rt, memory.live_blocks(), 0);
+    assert_same(rt, memory.live_blocks(), 0);
 }
 
 // Makes an owned map of a shared one, and returns whether that succeeded.
@@ -300,11 +303,12 @@ fn is_owned_without<R: Abort + Wait>(rt: &R, memory: Memory, k: u64) -> bool {
 // The owned map that a shared map becomes requests memory for its table and for a node of each pair.
 #[test]
 fn the_requests_of_an_owned_map_again(rt: HostRuntime) {
-    let memory = MeteredAlloc::leak(rt.alloc()).expect(&rt, "memory for the allocator");
+    let rt = &rt;
+    let memory = metered(rt, rt.alloc());
     for k in 0..5u64 {
-        let done = is_owned_without(&rt, memory, k);
-        assert_same(&rt, (k, done), (k, k == 4));
-        assert_same(&rt, memory.live_blocks(), 0);
+        let done = is_owned_without(rt, memory, k);
+        assert_same(rt, (k, done), (k, k == 4));
+        assert_same(rt, memory.live_blocks(), 0);
     }
 }
 
@@ -326,10 +330,11 @@ fn run_out<A: Allocator + Copy + Send + Sync, R: Abort + Threads + Wait + Sync>(
 // Four threads insert while memory runs out. The earlier pairs stay, and the count is that of the keys that are present.
 #[test]
 fn threads_without_memory(rt: HostRuntime) {
-    let memory = MeteredAlloc::leak(rt.alloc()).expect(&rt, "memory for the allocator");
+    let rt = &rt;
+    let memory = metered(rt, rt.alloc());
     for k in [0u64, 100, 1000] {
-        run_out(&rt, memory, k, &numbers(&rt, memory, 16));
-        assert_same(&rt, memory.live_blocks(), 0);
+        run_out(rt, memory, k, &numbers(rt, memory, 16));
+        assert_same(rt, memory.live_blocks(), 0);
     }
 }
 
@@ -356,15 +361,17 @@ fn fills_and_owns<R: Abort + Wait>(rt: &R, memory: Memory) -> (u64, bool) {
 // A map with room for a thousand pairs asks for no further table, nor does the owned one that it becomes.
 #[test]
 fn room_is_made_once(rt: HostRuntime) {
-    let memory = MeteredAlloc::leak(rt.alloc()).expect(&rt, "memory for the allocator");
-    let seen = fills_and_owns(&rt, memory);
-    assert_same(&rt, (seen, memory.requests()), ((3002, true), 1001));
+    let rt = &rt;
+    let memory = metered(rt, rt.alloc());
+    let seen = fills_and_owns(rt, memory);
+    assert_same(rt, (seen, memory.requests()), ((3002, true), 1001));
 }
 
 // Large tables are made, where there is memory.
 #[test]
 fn much_room(rt: HostRuntime) {
-    let map: HashMap<u64, u64> = HashMap::with_capacity(rt.alloc(), 5000).expect(&rt, "memory");
-    map.reserve(&rt, 40_000).expect(&rt, "memory");
-    assert_same(&rt, map.len(&rt), 0);
+    let rt = &rt;
+    let map: HashMap<u64, u64> = HashMap::with_capacity(rt.alloc(), 5000).expect(rt, "memory");
+    map.reserve(rt, 40_000).expect(rt, "memory");
+    assert_same(rt, map.len(rt), 0);
 }

@@ -1,6 +1,6 @@
 //! Threads that remove the same keys.
 
-use super::assert_same;
+use super::{assert_same, insert};
 use flurry_base::hash::KeyHasher;
 use flurry_shared::HashMap;
 use std::alloc::Allocator;
@@ -87,7 +87,7 @@ fn insert_all<K: Ord + Drop + Copy, S: KeyHasher<K>, A: Allocator + Copy, R: Abo
     keys: &[K],
 ) {
     for (place, key) in keys.iter().enumerate() {
-        map.insert(rt, *key, place as u64).expect(rt, "memory");
+        insert(rt, map, *key, place as u64);
     }
 }
 

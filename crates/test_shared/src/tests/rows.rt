@@ -1,6 +1,6 @@
 //! Worked rows, in one thread.
 
-use super::{assert_same, number_at, taken};
+use super::{assert_same, insert, number_at, taken};
 use flurry_base::hash::{KeyHasher, MaxHashBuilder, ZeroHashBuilder};
 use flurry_shared::HashMap;
 use flurry_shared::iter::{Iter, Keys, Values};
@@ -11,17 +11,9 @@ use std::sync::Wait;
 type Words = HashMap<&'static str, u64>;
 
 fn takes_a_new_value<R: Abort + Wait>(rt: &R, map: &Words) {
-    assert_same(
-        rt,
-        taken(map.insert(rt, "foo", 0).expect(rt, "memory")),
-        None,
-    );
-    assert_same(
-        rt,
-        taken(map.insert(rt, "foo", 1).expect(rt, "memory")),
-        Some(0),
-    );
-    assert_same(rt, number_at(rt, map, &"foo").expect(rt, "memory"), Some(1));
+    assert_same(rt, insert(rt, map, "foo", 0), None);
+    assert_same(rt, insert(rt, map, "foo", 1), Some(0));
+    assert_same(rt, number_at(rt, map, "foo"), Some(1));
     assert_same(rt, map.len(rt), 1);
 }
 
@@ -32,7 +24,7 @@ fn row_01(rt: HostRuntime) {
 }
 
 fn has_no_key<R: Abort + Wait>(rt: &R, map: &Words) {
-    assert_same(rt, number_at(rt, map, &"foo").expect(rt, "memory"), None);
+    assert_same(rt, number_at(rt, map, "foo"), None);
     assert_same(rt, taken(map.remove(rt, &"foo")), None);
 }
 
@@ -73,9 +65,10 @@ fn row_08_with<S: KeyHasher<i32>, R: Abort + Wait>(rt: &R, map: &HashMap<i32, i3
 // A thousand signed keys, with different hashes and with one hash for all.
 #[test]
 fn row_08(rt: HostRuntime) {
-    row_08_with(&rt, &HashMap::new(rt.alloc()));
-    row_08_with(&rt, &HashMap::with_hasher(rt.alloc(), ZeroHashBuilder));
-    row_08_with(&rt, &HashMap::with_hasher(rt.alloc(), MaxHashBuilder))
+    let rt = &rt;
+    row_08_with(rt, &HashMap::new(rt.alloc()));
+    row_08_with(rt, &HashMap::with_hasher(rt.alloc(), ZeroHashBuilder));
+    row_08_with(rt, &HashMap::with_hasher(rt.alloc(), MaxHashBuilder))
 }
 
 const KEYS: u64 = 50_000;
@@ -84,8 +77,7 @@ const KEYS: u64 = 50_000;
 fn insert_all<R: Abort + Wait>(rt: &R, map: &HashMap<u64, u64>) -> u64 {
     let mut new = 0u64;
     for key in 0..KEYS {
-        let old = map.insert(rt, key, key).expect(rt, "memory");
-        if old.is_none() {
+        if insert(rt, map, key, key).is_none() {
             new = new.saturating_add(1);
         }
     }

@@ -52,7 +52,7 @@ fn numbers<A: Allocator + Copy, R: Wait>(
 }
 
 // Returns the number of pairs that an iterator gives up to its end, and the sums of their keys and of their values.
-fn read_all<A: Allocator + Copy, R: Wait>(
+pub(super) fn read_all<A: Allocator + Copy, R: Wait>(
     pairs: Iter<'_, R, u64, u64, A>,
 ) -> Result<(u64, u64, u64), AllocError> {
     let mut pairs = pairs;
@@ -81,7 +81,7 @@ fn read_rest<A: Allocator + Copy, R: Wait>(
 }
 
 // Asserts that `wanted` is the number of pairs of a map, and the sums of their keys and of their values.
-fn has_sums<S: KeyHasher<u64>, A: Allocator + Copy, R: Abort + Wait>(
+pub(super) fn has_sums<S: KeyHasher<u64>, A: Allocator + Copy, R: Abort + Wait>(
     rt: &R,
     map: &HashMap<u64, u64, S, A>,
     wanted: (u64, u64, u64),

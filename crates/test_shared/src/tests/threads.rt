@@ -40,22 +40,24 @@ pub(super) fn insert_in_threads<
 
 #[test]
 fn eight_threads_insert_the_same_keys(rt: HostRuntime) {
-    let map = HashMap::new(rt.alloc());
+    let rt = &rt;
+    let map = &HashMap::new(rt.alloc());
 
-    insert_in_threads(&rt, &map, 8, 0, 1000);
+    insert_in_threads(rt, map, 8, 0, 1000);
 
-    assert_same(&rt, map.len(&rt), 1000);
-    assert_same(&rt, count_own(&rt, &map, 0, 1000), 1000);
+    assert_same(rt, map.len(rt), 1000);
+    assert_same(rt, count_own(rt, map, 0, 1000), 1000);
 }
 
 #[test]
 fn four_threads_insert_keys_of_one_hash(rt: HostRuntime) {
-    let map = HashMap::with_hasher(rt.alloc(), ZeroHashBuilder);
+    let rt = &rt;
+    let map = &HashMap::with_hasher(rt.alloc(), ZeroHashBuilder);
 
-    insert_in_threads(&rt, &map, 4, 100, 100);
+    insert_in_threads(rt, map, 4, 100, 100);
 
-    assert_same(&rt, map.len(&rt), 400);
-    assert_same(&rt, count_own(&rt, &map, 0, 400), 400);
+    assert_same(rt, map.len(rt), 400);
+    assert_same(rt, count_own(rt, map, 0, 400), 400);
 }
 
 // Inserts 64 keys, waits until the other thread has done so, and returns how many of its keys are found.
@@ -79,23 +81,24 @@ fn insert_and_read_in_threads<
     A: Allocator + Copy + Send + Sync,
     R: Threads + Wait + Sync,
 >(rt: &R, map: &HashMap<u64, u64, S, A>) -> (u64, u64) {
-    let first = AtomicBool::new(false);
-    let second = AtomicBool::new(false);
+    let first = &AtomicBool::new(false);
+    let second = &AtomicBool::new(false);
     thread::join(
         rt,
-        || insert_and_read(rt, map, (0, &first), (64, &second)),
-        || insert_and_read(rt, map, (64, &second), (0, &first)),
+        || insert_and_read(rt, map, (0, first), (64, second)),
+        || insert_and_read(rt, map, (64, second), (0, first)),
     )
 }
 
 #[test]
 fn two_threads_read_each_other(rt: HostRuntime) {
+    let rt = &rt;
     let map = HashMap::new(rt.alloc());
 
-    let found = insert_and_read_in_threads(&rt, &map);
+    let found = insert_and_read_in_threads(rt, &map);
 
-    assert_same(&rt, found, (64, 64));
-    assert_same(&rt, map.len(&rt), 128);
+    assert_same(rt, found, (64, 64));
+    assert_same(rt, map.len(rt), 128);
 }
 
 // Makes room, and then inserts `keys` keys from 16 on.
@@ -132,25 +135,27 @@ fn look_while_it_grows<
 
 #[test]
 fn eight_threads_look_while_a_ninth_makes_room(rt: HostRuntime) {
-    let map = HashMap::with_hasher(rt.alloc(), LowHashBuilder);
-    insert_all(&rt, &map, 0, 16);
+    let rt = &rt;
+    let map = &HashMap::with_hasher(rt.alloc(), LowHashBuilder);
+    insert_all(rt, map, 0, 16);
 
-    assert_same(&rt, look_while_it_grows(&rt, &map, 4096, 0), 0);
+    assert_same(rt, look_while_it_grows(rt, map, 4096, 0), 0);
 
-    assert_same(&rt, map.len(&rt), 16);
-    assert_same(&rt, count_own(&rt, &map, 0, 16), 16);
+    assert_same(rt, map.len(rt), 16);
+    assert_same(rt, count_own(rt, map, 0, 16), 16);
 }
 
 // Look-ups that start at a table that is old by the time they look.
 #[test]
 fn eight_threads_look_while_a_ninth_inserts(rt: HostRuntime) {
-    let map = HashMap::new(rt.alloc()).with_processors(4);
-    insert_all(&rt, &map, 0, 16);
+    let rt = &rt;
+    let map = &HashMap::new(rt.alloc()).with_processors(4);
+    insert_all(rt, map, 0, 16);
 
-    assert_same(&rt, look_while_it_grows(&rt, &map, 0, 5000), 0);
+    assert_same(rt, look_while_it_grows(rt, map, 0, 5000), 0);
 
-    assert_same(&rt, map.len(&rt), 5016);
-    assert_same(&rt, count_own(&rt, &map, 0, 5016), 5016);
+    assert_same(rt, map.len(rt), 5016);
+    assert_same(rt, count_own(rt, map, 0, 5016), 5016);
 }
 
 // Moves a map into a thread of its own, which counts the keys below `below` and drops the map. Returns `None` if the thread cannot be
@@ -170,8 +175,9 @@ fn count_in_thread<
 
 #[test]
 fn a_thread_owns_a_map(rt: HostRuntime) {
+    let rt = &rt;
     let map = HashMap::new(rt.alloc());
-    insert_all(&rt, &map, 0, 100);
+    insert_all(rt, &map, 0, 100);
 
-    assert_same(&rt, count_in_thread(&rt, map, 200), Some(100));
+    assert_same(rt, count_in_thread(rt, map, 200), Some(100));
 }

@@ -130,14 +130,15 @@ fn tables_are_cut_by_their_strides(rt: HostRuntime) -> Result<(), Fail> {
 
 #[test]
 fn the_largest_table_has_ranges(rt: HostRuntime) -> Result<(), Fail> {
+    let rt = &rt;
     let (board, mut seats) = ClaimBoard::new(rt.alloc(), 30, 1, 1)?;
     assert_same(
-        &rt,
-        next(&rt, &board, &mut seats[0]),
+        rt,
+        next(rt, &board, &mut seats[0]),
         Some((0, 1 << 30, true)),
     );
     let (board, mut seats) = ClaimBoard::new(rt.alloc(), 30, 8, 1)?;
-    let top = next(&rt, &board, &mut seats[0]);
-    assert_same(&rt, top, Some(((1 << 30) - (1 << 24), 1 << 30, false)));
+    let top = next(rt, &board, &mut seats[0]);
+    assert_same(rt, top, Some(((1 << 30) - (1 << 24), 1 << 30, false)));
     Ok(())
 }

@@ -62,15 +62,12 @@ fn start_of_sixteen(rt: &impl Abort) -> PublishedTable
 
 #[test]
 fn an_insertion_of_a_new_key(rt: HostRuntime) {
-    let start = start_of_sixteen(&rt);
+    let rt = &rt;
+    let start = start_of_sixteen(rt);
     let mut slot = Slot::live(4, 5, Bin::new());
-    let value = Arc::new(rt.alloc(), 50u64).expect(&rt, "memory for the value");
+    let value = Arc::new(rt.alloc(), 50u64).expect(rt, "memory for the value");
     let call: Call<&u64, u64, u64, NoFn> = Call::Insert(5, value);
     let ending = begun(call, 5, &start, rt.alloc(), &mut slot);
-    assert_same(&rt, ending.is_counting(), true);
-    assert_same(
-        &rt,
-        matches!(ending.into_reply(), Ok(Reply::Refused)),
-        false,
-    );
+    assert_same(rt, ending.is_counting(), true);
+    assert_same(rt, matches!(ending.into_reply(), Ok(Reply::Refused)), false);
 }

@@ -3,7 +3,6 @@
 //! A function that owns a call in progress passes it to another function by reference, and then drops it explicitly. If it were dropped at
 //! the end of a body, the proof would go through everything that it can hold.
 ghost use Rattle.std.specs.Prelude.{◌≡◌, ⊤};
-ghost use Rattle.flurry_base.specs.Verdicts.{verdict_of};
 ghost use Rattle.flurry_steps_sweep.specs.Part.{LookPart, BinPart, MovePart, SeatPart, BoardPart, GivePart};
 ghost use Rattle.flurry_steps.specs.Party.{wanted_part};
 ghost use Rattle.flurry_steps.specs.PartyBoard.{IsAttempt};
@@ -17,10 +16,10 @@ mod rewrites;
 mod sweeps;
 mod tallies;
 
-use super::{assert_same, assert_same_at};
+use super::{Becomes, Close, assert_same, assert_same_at, closes_with, without_owners};
 use flurry_base::reply::KeptReply;
 use flurry_bins::bin::Bin;
-use flurry_bins_slots::{ComputeFn, Slot, Verdict};
+use flurry_bins_slots::{ComputeFn, Slot};
 use flurry_steps::party::{Call, Event, OwnedCall, Party, Reply, Want};
 use flurry_steps_claims::{Attempt, PlainBoard, Range};
 use flurry_steps_control::{Control, Room};
@@ -137,58 +136,6 @@ fn empty_map(alloc: Global, processors: usize, refused: u8) -> Map {
         },
         processors,
     }
-}
-
-// A function that sets this value, or that removes the pair, at any key.
-#[derive(Clone, Copy)]
-struct Becomes(Option<u64>);
-
-impl ComputeFn<u64, u64> for Becomes {
-    ghost can_change = { λ _. ⊤ };
-
-    ghost never_keeps = { λ _. ⊤ };
-
-    ghost changes = { λ f _ _ v. v ≡ verdict_of f.0 };
-
-    fn change<'a>(self, _key: &'a u64, _value: Option<&'a u64>) -> Verdict<u64> {
-        match self.0 {
-            Some(value) => Verdict::Set(value),
-            None => Verdict::Remove,
-        }
-    }
-}
-
-// The reply of a call.
-#[derive(Clone, Copy, Debug, PartialEq, Eq)]
-enum Told {
-    Key(KeptReply<u64, u64>),
-    Ended,
-    Refused,
-}
-
-fn plain(reply: Reply<u64, u64>) -> Told {
-    match reply {
-        Reply::Value(None) => value(None),
-        Reply::Value(Some(found)) => value(Some(*found)),
-        Reply::Pair(None) => Told::Key(KeptReply::Pair(None)),
-        Reply::Pair(Some((key, value))) => Told::Key(KeptReply::Pair(Some((*key, *value)))),
-        Reply::Contains(present) => Told::Key(KeptReply::Contains(present)),
-        Reply::New(value) => Told::Key(KeptReply::New(*value)),
-        Reply::Changed { new, old } => Told::Key(KeptReply::Changed {
-            new: *new,
-            old: *old,
-        }),
-        Reply::Exists(error) => Told::Key(KeptReply::Exists {
-            current: *error.current,
-            not_inserted: error.not_inserted,
-        }),
-        Reply::Ended => Told::Ended,
-        Reply::Refused => Told::Refused,
-    }
-}
-
-fn value(value: Option<u64>) -> Told {
-    Told::Key(KeptReply::Value(value))
 }
 
 // Asserts that a slot is the one at `index` of `table`.
@@ -344,9 +291,9 @@ fn steps<'k, F: ComputeFn<u64, u64>>(
 fn reply_of<'k, F: ComputeFn<u64, u64>>(
     rt: &impl Abort,
     party: &mut Party<&'k u64, u64, u64, F>,
-) -> Told {
+) -> Close {
     assert_same(rt, party.reply().is_some(), true);
-    let told = plain(party.take_reply().expect(rt, "the call is done"));
+    let told = without_owners(party.take_reply().expect(rt, "the call is done"));
     assert_same(rt, party.want(), Want::Done);
     assert_same(
         rt,
@@ -361,7 +308,7 @@ fn end<'k, F: ComputeFn<u64, u64>>(
     rt: &(impl Abort + AllocGlobal),
     party: &mut Party<&'k u64, u64, u64, F>,
     map: &mut Map,
-) -> (Vec<Event>, Told) {
+) -> (Vec<Event>, Close) {
     let events = steps(rt, party, map, 10000);
     let reply = reply_of(rt, party);
     (events, reply)
@@ -373,7 +320,7 @@ fn run<'k, F: ComputeFn<u64, u64>>(
     map: &mut Map,
     hash: u64,
     call: Call<&'k u64, u64, u64, F>,
-) -> (Vec<Event>, Told)
+) -> (Vec<Event>, Close)
     requires { CallIsReady F.can_change F.never_keeps call }
 {
     let mut party = Party::new(call, hash, map.processors);
@@ -416,7 +363,7 @@ fn call(
     map: &mut Map,
     hash: u64,
     asked: Asked,
-) -> (Vec<Event>, Told) {
+) -> (Vec<Event>, Close) {
     run(rt, map, hash, call_of(rt, &asked))
 }
 
@@ -424,11 +371,11 @@ fn call(
 #[derive(Clone, Copy)]
 enum Row<'r> {
     // A call with its hash: the events of its steps, and its reply.
-    Answers(u64, Asked, &'r [Event], Told),
+    Answers(u64, Asked, &'r [Event], Close),
     // A call with its hash: the number of its steps, and its reply.
-    Takes(u64, Asked, usize, Told),
+    Takes(u64, Asked, usize, Close),
     // A call with its hash: its reply.
-    Replies(u64, Asked, Told),
+    Replies(u64, Asked, Close),
     // An insertion of each key below the first number, as its own hash and with the value 0: the number of its steps.
     InsertsEach(u64, usize),
     // An insertion of each key below the first number, of the hash 0 and with the value 0: the number of its steps.
@@ -454,7 +401,7 @@ fn inserts_each(
     for key in 0..count {
         let hash = if has_one_hash { 0 } else { key };
         let (events, told) = call(rt, map, hash, OwnedCall::Insert(key, 0));
-        assert_same_at(rt, key, (events.len(), told), (steps, value(None)));
+        assert_same_at(rt, key, (events.len(), told), (steps, closes_with(None)));
     }
 }
 
@@ -462,7 +409,7 @@ fn inserts_each(
 fn removes_each(rt: &(impl Abort + AllocGlobal), map: &mut Map, count: u64) {
     for key in 0..count {
         let (_events, told) = call(rt, map, key, OwnedCall::Remove(key));
-        assert_same_at(rt, key, told, value(Some(0)));
+        assert_same_at(rt, key, told, closes_with(Some(0)));
     }
 }
 
@@ -505,7 +452,7 @@ fn goes_through(rt: &(impl Abort + AllocGlobal), refused: u8, rows: &[Row<'_>]) 
 }
 
 // The reply of a call that found no value.
-const NONE: Told = Told::Key(KeptReply::Value(None));
+const NONE: Close = Close::Reply(KeptReply::Value(None));
 
 // The rows of a map of 16 bins with the keys 1 and 17, in which the hash of each key is the key. Both keys are in bin 1.
 const ONE_AND_SEVENTEEN: [Row<'static>; 2] = [
@@ -534,7 +481,7 @@ enum Act<'r> {
     // The call has its reply, which cannot be taken yet.
     KeepsReply,
     // The reply, which is taken.
-    Replies(Told),
+    Replies(Close),
     // The pair that the call read last.
     LastRead(Option<(u64, u64)>),
     // The pair that the call read last, with its write number.

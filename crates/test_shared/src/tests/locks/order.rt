@@ -1,5 +1,6 @@
 //! No step holds the lock of a bin and that of the control.
 
+use super::assert_same;
 use super::calls::reply_of;
 use flurry_bins_slots::{ComputeFn, NoFn, Verdict};
 use flurry_shared_locks::{LockField, Locks};
@@ -118,5 +119,5 @@ fn counts_in_time<A: Allocator + Copy + Send + Sync, R: Threads + Wait + Sync>(
 #[test]
 fn pairs_are_counted_while_a_call_waits_for_a_bin(rt: HostRuntime) {
     let locks = Locks::new(rt.alloc());
-    assert!(rt; counts_in_time(&rt, &locks));
+    assert_same(&rt, counts_in_time(&rt, &locks), true);
 }

@@ -4,6 +4,7 @@ ghost use Rattle.std.specs.Cmp.{partial_order_from_own_ties};
 ghost use Rattle.std.specs.Cmp.Rules.{comparing};
 ghost use Rattle.std.specs.Ordering.{nat_cmp, on, as_partial_cmp};
 
+use super::assert_same;
 use super::calls::{is_present, reply_of};
 use flurry_bins_slots::NoFn;
 use flurry_shared_locks::{LockField, Locks};
@@ -150,12 +151,12 @@ fn meets(rt: &(impl Abort + Threads + Wait + Sync), alloc: Global, way: Way) {
         number: 7,
         meeting: &meeting,
     };
-    let locks: Locks<MeetingKey<'_>, u64, Global> = Locks::new(alloc);
+    let locks: &Locks<MeetingKey<'_>, u64, Global> = &Locks::new(alloc);
     let call: OwnedCall<MeetingKey<'_>, u64, NoFn> = OwnedCall::Insert(key, 1);
-    drop(reply_of(rt, &locks, HASH, call));
+    drop(reply_of(rt, locks, HASH, call));
     meeting.open();
-    assert_eq!(rt; find_twice(rt, &locks, &key, way), (true, true));
-    assert!(rt; meeting.has_met());
+    let found = find_twice(rt, locks, &key, way);
+    assert_same(rt, (found, meeting.has_met()), ((true, true), true));
 }
 
 // A look-up takes its bin's lock to read, so that another one looks there at the same time.

@@ -202,7 +202,8 @@ fn work_in_threads<
 // key twice.
 #[test]
 fn walks_beside_insertions(rt: HostRuntime) {
-    let map = numbers(&rt, rt.alloc(), STANDING as u64).with_processors(4);
+    let rt = &rt;
+    let map = &numbers(rt, rt.alloc(), STANDING as u64).with_processors(4);
     let works = [
         Work::Insert(1000, 11_000),
         Work::Insert(11_000, 21_000),
@@ -212,16 +213,17 @@ fn walks_beside_insertions(rt: HostRuntime) {
         Work::Visit(2),
     ];
 
-    assert_same(&rt, work_in_threads(&rt, &map, &works), 0);
+    assert_same(rt, work_in_threads(rt, map, &works), 0);
 
-    assert_same(&rt, map.len(&rt), 21_000);
-    assert_same(&rt, walk_once(&rt, &map), 0);
+    assert_same(rt, map.len(rt), 21_000);
+    assert_same(rt, walk_once(rt, map), 0);
 }
 
 // After all threads have ended, the count is that of the pairs that a walk gives.
 #[test]
 fn writers_removers_and_readers_of_one_bin(rt: HostRuntime) {
-    let map = HashMap::with_hasher(rt.alloc(), ZeroHashBuilder);
+    let rt = &rt;
+    let map = &HashMap::with_hasher(rt.alloc(), ZeroHashBuilder);
     let works = [
         Work::Insert(0, 1000),
         Work::Remove(0, 1000),
@@ -241,19 +243,20 @@ fn writers_removers_and_readers_of_one_bin(rt: HostRuntime) {
         Work::Look(0, 1000),
     ];
 
-    assert_same(&rt, work_in_threads(&rt, &map, &works), 0);
+    assert_same(rt, work_in_threads(rt, map, &works), 0);
 
     assert_same(
-        &rt,
-        read_all(map.iter(&rt)).expect(&rt, "memory").0,
-        map.len(&rt) as u64,
+        rt,
+        read_all(map.iter(rt)).expect(rt, "memory").0,
+        map.len(rt) as u64,
     );
 }
 
 // The even keys stay, and of the earlier keys the odd ones are removed.
 #[test]
 fn a_retain_beside_insertions(rt: HostRuntime) {
-    let map = numbers(&rt, rt.alloc(), STANDING as u64);
+    let rt = &rt;
+    let map = &numbers(rt, rt.alloc(), STANDING as u64);
     let works = [
         Work::KeepEven,
         Work::Insert(1000, 3000),
@@ -261,15 +264,14 @@ fn a_retain_beside_insertions(rt: HostRuntime) {
         Work::Insert(3000, 5000),
     ];
 
-    assert_same(&rt, work_in_threads(&rt, &map, &works), 0);
+    assert_same(rt, work_in_threads(rt, map, &works), 0);
 
-    assert_same(&rt, walk_once(&rt, &map), 500);
-    map.retain(&rt, |key, _| *key % 2 == 0)
-        .expect(&rt, "memory");
-    assert_same(&rt, map.len(&rt), 2500);
+    assert_same(rt, walk_once(rt, map), 500);
+    map.retain(rt, |key, _| *key % 2 == 0).expect(rt, "memory");
+    assert_same(rt, map.len(rt), 2500);
     assert_same(
-        &rt,
-        read_all(map.iter(&rt)).expect(&rt, "memory"),
+        rt,
+        read_all(map.iter(rt)).expect(rt, "memory"),
         (2500, 6_247_500, 6_247_500),
     );
 }

@@ -1,5 +1,6 @@
 //! Maps that are made from lists, their clones, and equal maps.
 
+use super::super::insert;
 use super::walks::sums_of_later_pairs;
 use super::{Numbers, assert_same, has_sums, numbers};
 use flurry_base::hash::{DefaultHashBuilder, KeyHasher, LowHashBuilder, ZeroHashBuilder};
@@ -36,15 +37,15 @@ fn extends_to<S: KeyHasher<u64>, R: Abort + Wait + AllocGlobal>(
 
 fn lists_of_many_bins<R: Abort + Wait + AllocGlobal>(rt: &R) {
     let pairs = list(rt, rt.alloc(), (0, 100, 0));
-    let map = HashMap::from_list(rt, pairs, LowHashBuilder).expect(rt, "memory");
-    has_sums(rt, &map, (100, 4950, 4950));
-    extends_to(rt, &map, (90, 110, 1), (110, 5995, 6015))
+    let map = &HashMap::from_list(rt, pairs, LowHashBuilder).expect(rt, "memory");
+    has_sums(rt, map, (100, 4950, 4950));
+    extends_to(rt, map, (90, 110, 1), (110, 5995, 6015))
 }
 
 fn lists_of_one_bin<R: Abort + Wait + AllocGlobal>(rt: &R) {
-    let map = HashMap::with_hasher(rt.alloc(), ZeroHashBuilder);
-    extends_to(rt, &map, (0, 50, 0), (50, 1225, 1225));
-    extends_to(rt, &map, (0, 0, 0), (50, 1225, 1225))
+    let map = &HashMap::with_hasher(rt.alloc(), ZeroHashBuilder);
+    extends_to(rt, map, (0, 50, 0), (50, 1225, 1225));
+    extends_to(rt, map, (0, 0, 0), (50, 1225, 1225))
 }
 
 #[test]
@@ -56,19 +57,20 @@ fn lists(rt: HostRuntime) {
 // An empty list makes no table: a walk that starts before the first pair gives no pairs.
 #[test]
 fn an_empty_list(rt: HostRuntime) {
-    let pairs = list(&rt, rt.alloc(), (0, 0, 0));
-    let map = HashMap::from_list(&rt, pairs, LowHashBuilder).expect(&rt, "memory");
+    let rt = &rt;
+    let pairs = list(rt, rt.alloc(), (0, 0, 0));
+    let map = &HashMap::from_list(rt, pairs, LowHashBuilder).expect(rt, "memory");
     assert_same(
-        &rt,
-        sums_of_later_pairs(&rt, &map).expect(&rt, "memory"),
+        rt,
+        sums_of_later_pairs(rt, map).expect(rt, "memory"),
         (0, 0, 0),
     );
-    has_sums(&rt, &map, (10, 45, 45))
+    has_sums(rt, map, (10, 45, 45))
 }
 
 // Inserts a pair into the clone of a map of a hundred pairs, and removes a pair from the map. Neither changes the other.
 fn are_apart<R: Abort + Wait>(rt: &R, map: &Numbers, copy: &Numbers) {
-    copy.insert(rt, 200, 0).expect(rt, "memory");
+    insert(rt, copy, 200, 0);
     map.remove(rt, &3);
     has_sums(rt, copy, (101, 5150, 4950));
     has_sums(rt, map, (99, 4947, 4947))
@@ -77,9 +79,10 @@ fn are_apart<R: Abort + Wait>(rt: &R, map: &Numbers, copy: &Numbers) {
 // A clone of a map has the map's pairs, and is a map of its own.
 #[test]
 fn a_further_map(rt: HostRuntime) {
-    let map = numbers(&rt, rt.alloc(), 100);
-    let copy = map.try_clone(&rt).expect(&rt, "memory");
-    are_apart(&rt, &map, &copy)
+    let rt = &rt;
+    let map = numbers(rt, rt.alloc(), 100);
+    let copy = map.try_clone(rt).expect(rt, "memory");
+    are_apart(rt, &map, &copy)
 }
 
 // Returns a map of the keys below `to`, with the hasher of `seed`. The value of a key is the key plus `more`.
@@ -121,7 +124,7 @@ fn equals_its_like<R: Abort + Wait + AllocGlobal>(
 // The other map has another key in place of one key.
 fn differs_by_a_key<R: Abort + Wait>(rt: &R, map: &HashMap<u64, u64>, other: &HashMap<u64, u64>) {
     other.remove(rt, &3);
-    other.insert(rt, 30, 3).expect(rt, "memory");
+    insert(rt, other, 30, 3);
     assert_same(rt, map.equals(rt, other).expect(rt, "memory"), false);
     assert_same(rt, other.equals(rt, map).expect(rt, "memory"), false);
 }
@@ -138,22 +141,22 @@ fn compares<R: Abort + Wait + AllocGlobal>(
 
 #[test]
 fn equal_maps(rt: HostRuntime) {
-    let map = seeded(&rt, 20, 0, 1);
-    compares(&rt, &map, &seeded(&rt, 20, 0, 2))
+    let rt = &rt;
+    let map = seeded(rt, 20, 0, 1);
+    compares(rt, &map, &seeded(rt, 20, 0, 2))
 }
 
 // Pairs are inserted in their order: of a key that comes twice the last value stands.
 #[test]
 fn a_doubled_key_in_a_list(rt: HostRuntime) {
-    let pairs = Vec::from_array(rt.alloc(), [(1u64, 10u64), (2, 20), (1, 30)]).expect(
-        &rt, "memory",
-    );
-    let map = HashMap::from_list(&rt, pairs, LowHashBuilder).expect(&rt, "memory");
-    has_sums(&rt, &map, (2, 3, 50));
+    let rt = &rt;
+    let pairs = Vec::from_array(rt.alloc(), [(1u64, 10u64), (2, 20), (1, 30)]).expect(rt, "memory");
+    let map = &HashMap::from_list(rt, pairs, LowHashBuilder).expect(rt, "memory");
+    has_sums(rt, map, (2, 3, 50));
     map.extend(
-        &rt,
-        Vec::from_array(rt.alloc(), [(2u64, 1u64), (2, 2)]).expect(&rt, "memory"),
+        rt,
+        Vec::from_array(rt.alloc(), [(2u64, 1u64), (2, 2)]).expect(rt, "memory"),
     )
-    .expect(&rt, "memory");
-    has_sums(&rt, &map, (2, 3, 32))
+    .expect(rt, "memory");
+    has_sums(rt, map, (2, 3, 32))
 }

@@ -317,11 +317,11 @@ fn meets<R: Abort + Threads + Wait + Sync>(
     is_new: bool,
 ) -> bool {
     let meeting = Meeting::leak(rt, alloc);
-    let map: Guests<Global> = HashMap::with_hasher(alloc, ZeroHashBuilder);
+    let map: &Guests<Global> = &HashMap::with_hasher(alloc, ZeroHashBuilder);
     if !is_new {
-        fill(rt, &map, who, meeting);
+        fill(rt, map, who, meeting);
     }
-    in_two_threads(rt, &map, deed, who, meeting);
+    in_two_threads(rt, map, deed, who, meeting);
     meeting.has_met()
 }
 
@@ -427,10 +427,10 @@ fn in_two_threads_in_set<A: Allocator + Copy + Send + Sync, R: Threads + Wait + 
 
 fn meets_in_set<R: Abort + Threads + Wait + Sync>(rt: &R, alloc: Global, deed: SetDeed) -> bool {
     let meeting = Meeting::leak(rt, alloc);
-    let set: HashSet<Guest, ZeroHashBuilder> = HashSet::with_hasher(alloc, ZeroHashBuilder);
+    let set: &HashSet<Guest, ZeroHashBuilder> = &HashSet::with_hasher(alloc, ZeroHashBuilder);
     drop(set.insert(rt, guest_of(1, deed != SetDeed::Insert, meeting)));
     drop(set.insert(rt, Guest::new(2)));
-    in_two_threads_in_set(rt, &set, deed, meeting);
+    in_two_threads_in_set(rt, set, deed, meeting);
     meeting.has_met()
 }
 

@@ -1,5 +1,6 @@
 //! Calls that keep some of the pairs.
 
+use super::super::{insert, number_at};
 use super::{Numbers, assert_same, has_sums, numbers, taken};
 use flurry_shared::iter::Iter;
 use std::process::Abort;
@@ -51,7 +52,7 @@ fn put_again_and_refuse<R: Wait>(rt: &R, map: &Numbers, key: u64, value: u64) ->
 fn keeps_what_is_put_again<R: Abort + Wait>(rt: &R, map: &Numbers) {
     map.retain(rt, |key, value| put_again_and_refuse(rt, map, *key, *value))
         .expect(rt, "memory");
-    assert_same(rt, taken(map.get(rt, &0).expect(rt, "memory")), Some(0));
+    assert_same(rt, number_at(rt, map, 0), Some(0));
 }
 
 #[test]
@@ -67,7 +68,7 @@ fn remove_as_read<R: Abort + Wait>(rt: &R, map: &Numbers, pairs: &mut Iter<'_, R
     let Some(second) = pairs.next_seen().expect(rt, "memory") else {
         panic!(rt; "two pairs stand")
     };
-    map.insert(rt, *second.key(), 9).expect(rt, "memory");
+    insert(rt, map, *second.key(), 9);
     assert_same(
         rt,
         taken(map.remove_seen(rt, first.try_clone().expect(rt, "memory"))),
@@ -80,9 +81,10 @@ fn remove_as_read<R: Abort + Wait>(rt: &R, map: &Numbers, pairs: &mut Iter<'_, R
 // A pair is removed if it is as it was read, and only once. A pair that was written after it was read stays.
 #[test]
 fn pairs_as_they_were_read(rt: HostRuntime) {
-    let map = numbers(&rt, rt.alloc(), 2);
-    let mut pairs = map.iter(&rt);
-    remove_as_read(&rt, &map, &mut pairs);
+    let rt = &rt;
+    let map = &numbers(rt, rt.alloc(), 2);
+    let mut pairs = map.iter(rt);
+    remove_as_read(rt, map, &mut pairs);
     drop(pairs);
-    has_sums(&rt, &map, (1, 1, 9))
+    has_sums(rt, map, (1, 1, 9))
 }

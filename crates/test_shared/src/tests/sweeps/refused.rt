@@ -1,5 +1,6 @@
 //! Each request for memory of a walk, or of a call over many pairs, fails in turn.
 
+use super::super::{Memory, metered};
 use super::bulk::list;
 use super::{assert_same, numbers, read_all};
 use flurry_base::hash::LowHashBuilder;
@@ -8,8 +9,6 @@ use metered_alloc::MeteredAlloc;
 use std::alloc::{Allocator, Global};
 use std::process::Abort;
 use std::sync::Wait;
-
-type Memory = &'static MeteredAlloc<Global>;
 
 // A map of numbers. Its allocator is a parameter, because a proof over `Memory` would have to unfold it in each step.
 type Numbers<A> = HashMap<u64, u64, LowHashBuilder, A>;
@@ -112,7 +111,7 @@ fn refuse_each<R: Abort + Wait>(
 // shares its keys and values, and is built in a table of its own first.
 #[test]
 fn each_request_of_a_call(rt: HostRuntime) {
-    let memory = MeteredAlloc::leak(rt.alloc()).expect(&rt, "memory for the allocator");
+    let memory = metered(&rt, rt.alloc());
     for row in [
         (Call::Walk, 0, 3),
         (Call::ForEach, 0, 3),
@@ -131,12 +130,13 @@ fn each_request_of_a_call(rt: HostRuntime) {
 // An extension keeps the pairs that it inserted before the request that failed.
 #[test]
 fn an_extension(rt: HostRuntime) {
-    let memory = MeteredAlloc::leak(rt.alloc()).expect(&rt, "memory for the allocator");
+    let rt = &rt;
+    let memory = metered(rt, rt.alloc());
     for k in 0..10u64 {
-        let (refused, done, count, _) = call_without(&rt, memory, (3, 3), Call::Extend, k);
+        let (refused, done, count, _) = call_without(rt, memory, (3, 3), Call::Extend, k);
         let seen = (refused, done, count);
-        assert_same(&rt, (k, seen), (k, (k < 9, k == 9, 3 + k as usize / 3)));
-        assert_same(&rt, memory.live_blocks(), 0);
+        assert_same(rt, (k, seen), (k, (k < 9, k == 9, 3 + k as usize / 3)));
+        assert_same(rt, memory.live_blocks(), 0);
     }
 }
 
@@ -145,14 +145,15 @@ fn an_extension(rt: HostRuntime) {
 // further table.
 #[test]
 fn room_is_made_first(rt: HostRuntime) {
-    let memory = MeteredAlloc::leak(rt.alloc()).expect(&rt, "memory for the allocator");
+    let rt = &rt;
+    let memory = metered(rt, rt.alloc());
     for (sizes, call, pairs, requests) in [
         ((0, 100), Call::FromList, 0, 302),
         ((100, 0), Call::TryClone, 100, 103),
         ((0, 100), Call::Extend, 100, 309),
         ((1, 8), Call::Extend, 9, 24),
     ] {
-        let seen = call_without(&rt, memory, sizes, call, u64::MAX);
-        assert_same(&rt, (call, seen), (call, (false, true, pairs, requests)));
+        let seen = call_without(rt, memory, sizes, call, u64::MAX);
+        assert_same(rt, (call, seen), (call, (false, true, pairs, requests)));
     }
 }

@@ -52,9 +52,10 @@ fn comes_and_goes<R: Abort + Wait>(rt: &R, view: &DefaultRef<'_, R>) {
 
 #[test]
 fn calls_of_one_key(rt: HostRuntime) {
+    let rt = &rt;
     let map: HashMap<u64, u64> = HashMap::new(rt.alloc());
-    comes_and_goes(&rt, &map.pin(&rt));
-    assert_same(&rt, map.is_empty(&rt), true);
+    comes_and_goes(rt, &map.pin(rt));
+    assert_same(rt, map.is_empty(rt), true);
 }
 
 type NumbersRef<'m, R> = HashMapRef<'m, R, u64, u64, LowHashBuilder, Global>;
@@ -115,6 +116,7 @@ fn keeps_and_clears<R: Abort + Wait + AllocGlobal>(rt: &R, view: &NumbersRef<'_,
 
 #[test]
 fn calls_of_many_pairs(rt: HostRuntime) {
-    let map = numbers(&rt, rt.alloc(), 10);
-    keeps_and_clears(&rt, &map.pin(&rt))
+    let rt = &rt;
+    let map = numbers(rt, rt.alloc(), 10);
+    keeps_and_clears(rt, &map.pin(rt))
 }

@@ -1,5 +1,6 @@
 //! Insertions that go one way down a bin.
 
+use super::super::metered;
 use super::assert_same;
 use flurry_bins::bin::{Bin, Ordered, Shape};
 use flurry_bins_insertion::table::{Inserted, insert_pair_in_bin};
@@ -79,16 +80,17 @@ fn shape_of<A: Allocator + Copy>(memory: A, count: u64, bins: usize) -> Result<S
 
 #[test]
 fn a_bin_that_grows_by_insertions(rt: HostRuntime) {
-    let mut bin = bin_of(rt.alloc(), 8, 16).expect(&rt, "memory");
-    insert_more(&rt, &mut bin, rt.alloc()).expect(&rt, "memory");
+    let rt = &rt;
+    let mut bin = bin_of(rt.alloc(), 8, 16).expect(rt, "memory");
+    insert_more(rt, &mut bin, rt.alloc()).expect(rt, "memory");
     assert_same(
-        &rt,
-        shape_of(rt.alloc(), 8, 64).expect(&rt, "memory"),
+        rt,
+        shape_of(rt.alloc(), 8, 64).expect(rt, "memory"),
         Shape::List(8),
     );
     assert_same(
-        &rt,
-        shape_of(rt.alloc(), 9, 64).expect(&rt, "memory"),
+        rt,
+        shape_of(rt.alloc(), 9, 64).expect(rt, "memory"),
         Shape::Tree(9),
     );
 }
@@ -151,10 +153,11 @@ fn refuse_each<A: Allocator + Copy>(
 // There are three requests for an absent key, and one for a present one.
 #[test]
 fn refused_insertions(rt: HostRuntime) {
-    let memory = MeteredAlloc::leak(rt.alloc()).expect(&rt, "memory for the allocator");
+    let rt = &rt;
+    let memory = metered(rt, rt.alloc());
     for count in [0u64, 1, 2, 8, 9, 30] {
-        refuse_each(&rt, memory, memory, (count, 1, 3));
+        refuse_each(rt, memory, memory, (count, 1, 3));
         let requests = if count > 2 { 1 } else { 3 };
-        refuse_each(&rt, memory, memory, (count, 4, requests));
+        refuse_each(rt, memory, memory, (count, 4, requests));
     }
 }

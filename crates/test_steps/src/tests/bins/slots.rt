@@ -151,32 +151,34 @@ fn moved(answer: MoveAnswer) -> (u64, Option<(u8, usize)>) {
 
 #[test]
 fn writes_are_numbered_up_to_the_greatest(rt: HostRuntime) {
+    let rt = &rt;
     let mut slot: Slot<u64, u64> = Slot::live_at(4, 5, Bin::new(), u64::MAX - 2);
-    assert_same(&rt, put(rt.alloc(), &mut slot, 5, 5, 1), Ok((None, false)));
-    assert_same(&rt, find(&slot, 5, 5), Ok(Some((1, u64::MAX - 1))));
-    assert_same(&rt, take_if(&mut slot, 5, 5, u64::MAX - 2), Ok(None));
+    assert_same(rt, put(rt.alloc(), &mut slot, 5, 5, 1), Ok((None, false)));
+    assert_same(rt, find(&slot, 5, 5), Ok(Some((1, u64::MAX - 1))));
+    assert_same(rt, take_if(&mut slot, 5, 5, u64::MAX - 2), Ok(None));
     assert_same(
-        &rt,
+        rt,
         take_if(&mut slot, 5, 5, u64::MAX - 1),
         Ok(Some((1, u64::MAX - 1))),
     );
-    assert_same(&rt, find(&slot, 5, 5), Ok(None));
+    assert_same(rt, find(&slot, 5, 5), Ok(None));
 }
 
 // At the greatest number the count stays, and no conditional removal takes the pair.
 #[test]
 fn the_greatest_number_is_never_taken_on_condition(rt: HostRuntime) {
+    let rt = &rt;
     let mut slot: Slot<u64, u64> = Slot::live_at(4, 5, Bin::new(), u64::MAX - 1);
-    assert_same(&rt, put(rt.alloc(), &mut slot, 5, 5, 1), Ok((None, false)));
-    assert_same(&rt, find(&slot, 5, 5), Ok(Some((1, u64::MAX))));
-    assert_same(&rt, take_if(&mut slot, 5, 5, u64::MAX), Ok(None));
+    assert_same(rt, put(rt.alloc(), &mut slot, 5, 5, 1), Ok((None, false)));
+    assert_same(rt, find(&slot, 5, 5), Ok(Some((1, u64::MAX))));
+    assert_same(rt, take_if(&mut slot, 5, 5, u64::MAX), Ok(None));
     assert_same(
-        &rt,
+        rt,
         put(rt.alloc(), &mut slot, 5, 5, 2),
         Ok((Some(1), false)),
     );
-    assert_same(&rt, find(&slot, 5, 5), Ok(Some((2, u64::MAX))));
-    assert_same(&rt, take(&mut slot, 5, 5), Ok(Some((2, u64::MAX))));
+    assert_same(rt, find(&slot, 5, 5), Ok(Some((2, u64::MAX))));
+    assert_same(rt, take(&mut slot, 5, 5), Ok(Some((2, u64::MAX))));
 }
 
 // A function that makes this of any pair.
@@ -260,17 +262,18 @@ fn alterations_at_a_live_bin(rt: HostRuntime) {
 
 #[test]
 fn alterations_of_a_present_pair(rt: HostRuntime) {
+    let rt = &rt;
     let mut slot: Slot<u64, u64> = Slot::live(4, 3, Bin::new());
     let seen = alter_present(rt.alloc(), &mut slot, 3, Verdict::Set(9));
-    assert_same(&rt, seen, Ok(None));
-    assert_same(&rt, put(rt.alloc(), &mut slot, 3, 3, 10), Ok((None, false)));
+    assert_same(rt, seen, Ok(None));
+    assert_same(rt, put(rt.alloc(), &mut slot, 3, 3, 10), Ok((None, false)));
     for (verdict, did) in [
         (Verdict::Keep, Did::Kept),
         (Verdict::Set(11), Did::Changed(11, 10)),
         (Verdict::Remove, Did::Removed(11)),
     ] {
         let seen = alter_present(rt.alloc(), &mut slot, 3, verdict);
-        assert_same(&rt, seen, Ok(Some(did)));
+        assert_same(rt, seen, Ok(Some(did)));
     }
 }
 
@@ -294,62 +297,66 @@ fn with_two_keys(rt: &impl Abort, alloc: Global) -> Slot<u64, u64> {
 
 #[test]
 fn insertions_at_a_live_bin(rt: HostRuntime) {
+    let rt = &rt;
     let mut slot: Slot<u64, u64> = Slot::live(4, 3, Bin::new());
-    assert_same(&rt, slot.at(), (4, 3));
+    assert_same(rt, slot.at(), (4, 3));
     let seen = put_absent(rt.alloc(), &mut slot, 3, 3, 10);
-    assert_same(&rt, seen, Ok(Ok(10)));
+    assert_same(rt, seen, Ok(Ok(10)));
     let seen = put_absent(rt.alloc(), &mut slot, 3, 3, 11);
-    assert_same(&rt, seen, Ok(Err((10, 11))));
-    assert_same(&rt, find(&slot, 3, 3), Ok(Some((10, 1))));
+    assert_same(rt, seen, Ok(Err((10, 11))));
+    assert_same(rt, find(&slot, 3, 3), Ok(Some((10, 1))));
 }
 
 #[test]
 fn reads_at_a_live_bin(rt: HostRuntime) {
-    let mut slot = with_two_keys(&rt, rt.alloc());
-    assert_same(&rt, halve(rt.alloc(), &mut slot, 35, 35), Ok(None));
-    assert_same(&rt, find(&slot, 3, 3), Ok(Some((5, 2))));
-    assert_same(&rt, next_after(&slot, None), Ok(Some((5, 2))));
-    assert_same(&rt, next_after(&slot, Some((3, &3))), Ok(Some((12, 3))));
-    assert_same(&rt, next_after(&slot, Some((19, &19))), Ok(None));
+    let rt = &rt;
+    let mut slot = with_two_keys(rt, rt.alloc());
+    assert_same(rt, halve(rt.alloc(), &mut slot, 35, 35), Ok(None));
+    assert_same(rt, find(&slot, 3, 3), Ok(Some((5, 2))));
+    assert_same(rt, next_after(&slot, None), Ok(Some((5, 2))));
+    assert_same(rt, next_after(&slot, Some((3, &3))), Ok(Some((12, 3))));
+    assert_same(rt, next_after(&slot, Some((19, &19))), Ok(None));
 }
 
 #[test]
 fn removals_at_a_live_bin(rt: HostRuntime) {
-    let mut slot = with_two_keys(&rt, rt.alloc());
-    assert_same(&rt, remove(rt.alloc(), &mut slot, 3, 3), Ok(true));
-    assert_same(&rt, take(&mut slot, 3, 3), Ok(None));
-    assert_same(&rt, here(slot.wipe()), Ok(1));
-    assert_same(&rt, here(slot.wipe()), Ok(0));
+    let rt = &rt;
+    let mut slot = with_two_keys(rt, rt.alloc());
+    assert_same(rt, remove(rt.alloc(), &mut slot, 3, 3), Ok(true));
+    assert_same(rt, take(&mut slot, 3, 3), Ok(None));
+    assert_same(rt, here(slot.wipe()), Ok(1));
+    assert_same(rt, here(slot.wipe()), Ok(0));
     let seen = put(rt.alloc(), &mut slot, 3, 3, 13);
-    assert_same(&rt, seen, Ok((None, false)));
-    assert_same(&rt, find(&slot, 3, 3), Ok(Some((13, 4))));
+    assert_same(rt, seen, Ok((None, false)));
+    assert_same(rt, find(&slot, 3, 3), Ok(Some((13, 4))));
 }
 
 #[test]
 fn steps_where_no_bin_is_yet(rt: HostRuntime) {
+    let rt = &rt;
     let mut slot: Slot<u64, u64> = Slot::unborn(4, 3);
     match slot
         .put(rt.alloc(), 3, 7, Given::Plain(8))
         .ok()
-        .expect(&rt, "memory for the pair")
+        .expect(rt, "memory for the pair")
     {
-        Answer::Unborn((key, Given::Plain(value))) => assert_same(&rt, (key, value), (7, 8)),
+        Answer::Unborn((key, Given::Plain(value))) => assert_same(rt, (key, value), (7, 8)),
         _ => panic!(rt; "no bin is there"),
     }
-    assert_same(&rt, slot.at(), (4, 3));
-    assert_same(&rt, slot.is_live(), false);
-    assert_same(&rt, find(&slot, 3, 3), Err(Away::Unborn));
-    assert_same(&rt, next_after(&slot, None), Err(Away::Unborn));
-    assert_same(&rt, put(rt.alloc(), &mut slot, 3, 3, 1), Err(Away::Unborn));
+    assert_same(rt, slot.at(), (4, 3));
+    assert_same(rt, slot.is_live(), false);
+    assert_same(rt, find(&slot, 3, 3), Err(Away::Unborn));
+    assert_same(rt, next_after(&slot, None), Err(Away::Unborn));
+    assert_same(rt, put(rt.alloc(), &mut slot, 3, 3, 1), Err(Away::Unborn));
     assert_same(
-        &rt,
+        rt,
         put_absent(rt.alloc(), &mut slot, 3, 3, 1),
         Err(Away::Unborn),
     );
-    assert_same(&rt, remove(rt.alloc(), &mut slot, 3, 3), Err(Away::Unborn));
-    assert_same(&rt, take(&mut slot, 3, 3), Err(Away::Unborn));
-    assert_same(&rt, take_if(&mut slot, 3, 3, 1), Err(Away::Unborn));
-    assert_same(&rt, here(slot.wipe()), Err(Away::Unborn));
+    assert_same(rt, remove(rt.alloc(), &mut slot, 3, 3), Err(Away::Unborn));
+    assert_same(rt, take(&mut slot, 3, 3), Err(Away::Unborn));
+    assert_same(rt, take_if(&mut slot, 3, 3, 1), Err(Away::Unborn));
+    assert_same(rt, here(slot.wipe()), Err(Away::Unborn));
 }
 
 // A live slot of the table 4 with the keys 3, 19 and 35, each its own value.
@@ -374,55 +381,60 @@ fn halves(rt: &impl Abort, alloc: Global) -> (Slot<u64, u64>, Slot<u64, u64>, Sl
 
 #[test]
 fn a_bin_moves_into_no_other_slots(rt: HostRuntime) {
-    let mut slot = with_three_keys(&rt, rt.alloc());
+    let rt = &rt;
+    let mut slot = with_three_keys(rt, rt.alloc());
     let mut low: Slot<u64, u64> = Slot::unborn(5, 3);
     let mut high: Slot<u64, u64> = Slot::unborn(5, 19);
     let mut other: Slot<u64, u64> = Slot::unborn(5, 20);
-    assert_same(&rt, moved(slot.move_into(&mut high, &mut low)), (2, None));
-    assert_same(&rt, moved(slot.move_into(&mut low, &mut other)), (2, None));
-    assert_same(&rt, moved(low.move_into(&mut slot, &mut high)), (2, None));
+    assert_same(rt, moved(slot.move_into(&mut high, &mut low)), (2, None));
+    assert_same(rt, moved(slot.move_into(&mut low, &mut other)), (2, None));
+    assert_same(rt, moved(low.move_into(&mut slot, &mut high)), (2, None));
     let seen = moved(slot.move_into(&mut low, &mut high));
-    assert_same(&rt, seen, (0, Some((4, 3))));
+    assert_same(rt, seen, (0, Some((4, 3))));
 }
 
 #[test]
 fn a_bin_that_has_moved_is_away(rt: HostRuntime) {
-    let (mut slot, mut low, mut high) = halves(&rt, rt.alloc());
+    let rt = &rt;
+    let (mut slot, mut low, mut high) = halves(rt, rt.alloc());
     let seen = moved(slot.move_into(&mut low, &mut high));
-    assert_same(&rt, seen, (1, Some((4, 3))));
-    assert_same(&rt, (slot.is_live(), low.is_live()), (false, true));
-    assert_same(&rt, find(&slot, 3, 3), Err(Away::Moved));
-    assert_same(&rt, put(rt.alloc(), &mut slot, 3, 3, 0), Err(Away::Moved));
-    assert_same(&rt, here(slot.wipe()), Err(Away::Moved));
+    assert_same(rt, seen, (1, Some((4, 3))));
+    assert_same(rt, (slot.is_live(), low.is_live()), (false, true));
+    assert_same(rt, find(&slot, 3, 3), Err(Away::Moved));
+    assert_same(rt, put(rt.alloc(), &mut slot, 3, 3, 0), Err(Away::Moved));
+    assert_same(rt, here(slot.wipe()), Err(Away::Moved));
 }
 
 #[test]
 fn a_bin_moves_into_its_halves(rt: HostRuntime) {
-    let (_slot, low, mut high) = halves(&rt, rt.alloc());
-    assert_same(&rt, find(&low, 3, 3), Ok(Some((3, 1))));
-    assert_same(&rt, find(&low, 35, 35), Ok(Some((35, 3))));
-    assert_same(&rt, find(&high, 19, 19), Ok(Some((19, 2))));
+    let rt = &rt;
+    let (_slot, low, mut high) = halves(rt, rt.alloc());
+    assert_same(rt, find(&low, 3, 3), Ok(Some((3, 1))));
+    assert_same(rt, find(&low, 35, 35), Ok(Some((35, 3))));
+    assert_same(rt, find(&high, 19, 19), Ok(Some((19, 2))));
     let seen = put(rt.alloc(), &mut high, 19, 19, 0);
-    assert_same(&rt, seen, Ok((Some(19), false)));
-    assert_same(&rt, find(&high, 19, 19), Ok(Some((0, 4))));
-    assert_same(&rt, next_after(&low, None), Ok(Some((3, 1))));
+    assert_same(rt, seen, Ok((Some(19), false)));
+    assert_same(rt, find(&high, 19, 19), Ok(Some((0, 4))));
+    assert_same(rt, next_after(&low, None), Ok(Some((3, 1))));
 }
 
 #[test]
 fn a_half_that_has_a_bin_is_not_moved_into(rt: HostRuntime) {
+    let rt = &rt;
     let mut slot: Slot<u64, u64> = Slot::live(4, 3, Bin::new());
     let mut low: Slot<u64, u64> = Slot::live(5, 3, Bin::new());
     let mut high: Slot<u64, u64> = Slot::unborn(5, 19);
-    assert_same(&rt, put(rt.alloc(), &mut slot, 3, 3, 1), Ok((None, false)));
-    assert_same(&rt, moved(slot.move_into(&mut low, &mut high)), (2, None));
-    assert_same(&rt, find(&slot, 3, 3), Ok(Some((1, 1))));
-    assert_same(&rt, find(&low, 3, 3), Ok(None));
-    assert_same(&rt, find(&high, 19, 19), Err(Away::Unborn));
+    assert_same(rt, put(rt.alloc(), &mut slot, 3, 3, 1), Ok((None, false)));
+    assert_same(rt, moved(slot.move_into(&mut low, &mut high)), (2, None));
+    assert_same(rt, find(&slot, 3, 3), Ok(Some((1, 1))));
+    assert_same(rt, find(&low, 3, 3), Ok(None));
+    assert_same(rt, find(&high, 19, 19), Err(Away::Unborn));
 }
 
 // The ninth entry of a list asks for a larger table if the table has fewer than 64 bins, and no other entry does.
 #[test]
 fn the_ninth_entry_asks_for_growth(rt: HostRuntime) {
+    let rt = &rt;
     let mut small: Slot<u64, u64> = Slot::live(5, 3, Bin::new());
     let mut large: Slot<u64, u64> = Slot::live(6, 3, Bin::new());
     for key in 0u64..12 {
@@ -430,14 +442,14 @@ fn the_ninth_entry_asks_for_growth(rt: HostRuntime) {
         let in_small = put(rt.alloc(), &mut small, 3, key, 0);
         let in_large = put(rt.alloc(), &mut large, 3, key, 0);
         let wanted = (key, Ok((None, asks)), Ok((None, false)));
-        assert_same(&rt, (key, in_small, in_large), wanted);
+        assert_same(rt, (key, in_small, in_large), wanted);
     }
     assert_same(
-        &rt,
+        rt,
         put(rt.alloc(), &mut small, 3, 8, 1),
         Ok((Some(0), false)),
     );
-    assert_same(&rt, here(small.wipe()), Ok(12));
+    assert_same(rt, here(small.wipe()), Ok(12));
 }
 
 // So no two holders can have the receipt of one move.

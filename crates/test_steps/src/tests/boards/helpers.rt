@@ -71,11 +71,12 @@ fn help_by_four<A: Allocator + Clone + Send + Sync, R: Threads + Wait + Sync>(
 
 #[test]
 fn four_threads_share_the_helpers(rt: HostRuntime) {
-    let helpers = Helpers::new(rt.alloc(), 10, 4).expect(&rt, "memory");
-    let all = help_by_four(&rt, rt.alloc(), &helpers).expect(&rt, "memory");
-    assert_same(&rt, all.len(), 32);
+    let rt = &rt;
+    let helpers = Helpers::new(rt.alloc(), 10, 4).expect(rt, "memory");
+    let all = help_by_four(rt, rt.alloc(), &helpers).expect(rt, "memory");
+    assert_same(rt, all.len(), 32);
     for (place, low) in all.iter().enumerate() {
-        assert_same(&rt, *low, place.saturating_mul(32));
+        assert_same(rt, *low, place.saturating_mul(32));
     }
 }
 
@@ -101,12 +102,13 @@ fn give_all<A: Allocator, R: Wait>(rt: &R, helpers: &Helpers<A>, out: Vec<Helper
 
 #[test]
 fn eight_helpers_can_be_out(rt: HostRuntime) {
-    let helpers = Helpers::new(rt.alloc(), 6, 2).expect(&rt, "memory");
-    assert_same(&rt, helpers.board().table(), 6);
-    let out = take_all(&rt, rt.alloc(), &helpers);
-    assert_same(&rt, helpers.take(&rt).is_none(), true);
-    give_all(&rt, &helpers, out);
-    assert_same(&rt, helpers.take(&rt).is_some(), true);
+    let rt = &rt;
+    let helpers = &Helpers::new(rt.alloc(), 6, 2).expect(rt, "memory");
+    assert_same(rt, helpers.board().table(), 6);
+    let out = take_all(rt, rt.alloc(), helpers);
+    assert_same(rt, helpers.take(rt).is_none(), true);
+    give_all(rt, helpers, out);
+    assert_same(rt, helpers.take(rt).is_some(), true);
 }
 
 // Two helpers claim a range each, and one of them reports both.
@@ -120,10 +122,11 @@ fn reports_its_own(rt: &impl Abort, one: &mut Helper, two: &mut Helper) {
 
 #[test]
 fn helper_reports_its_range_alone(rt: HostRuntime) {
-    let helpers = Helpers::new(rt.alloc(), 5, 2).expect(&rt, "memory");
-    let mut one = taken(&rt, &helpers);
-    let mut two = taken(&rt, &helpers);
-    reports_its_own(&rt, &mut one, &mut two);
+    let rt = &rt;
+    let helpers = &Helpers::new(rt.alloc(), 5, 2).expect(rt, "memory");
+    let mut one = taken(rt, helpers);
+    let mut two = taken(rt, helpers);
+    reports_its_own(rt, &mut one, &mut two);
 }
 
 // Moves the three ranges that are left.
@@ -152,9 +155,10 @@ fn helper_goes_on_where_it_was(rt: HostRuntime) -> Result<(), Fail> {
 
 #[test]
 fn ninth_helper_is_dropped(rt: HostRuntime) {
-    let helpers = Helpers::new(rt.alloc(), 5, 2).expect(&rt, "memory");
-    let others = Helpers::new(rt.alloc(), 6, 2).expect(&rt, "memory");
-    helpers.give(&rt, taken(&rt, &others));
-    let range = claimed(&rt, &mut taken(&rt, &helpers));
-    assert_same(&rt, range.table(), 5);
+    let rt = &rt;
+    let helpers = Helpers::new(rt.alloc(), 5, 2).expect(rt, "memory");
+    let others = Helpers::new(rt.alloc(), 6, 2).expect(rt, "memory");
+    helpers.give(rt, taken(rt, &others));
+    let range = claimed(rt, &mut taken(rt, &helpers));
+    assert_same(rt, range.table(), 5);
 }

@@ -56,8 +56,9 @@ fn requests<A: Allocator + Copy>(
 
 #[test]
 fn each_request_is_refused(rt: HostRuntime) -> Result<(), Fail> {
+    let rt = &rt;
     let memory = MeteredAlloc::leak(rt.alloc())?;
-    assert_same(&rt, requests(&rt, memory, memory, Made::Board), 3);
-    assert_same(&rt, requests(&rt, memory, memory, Made::Helpers), 4);
+    assert_same(rt, requests(rt, memory, memory, Made::Board), 3);
+    assert_same(rt, requests(rt, memory, memory, Made::Helpers), 4);
     Ok(())
 }

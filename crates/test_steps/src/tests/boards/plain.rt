@@ -51,54 +51,58 @@ fn table_of_one_range(rt: HostRuntime) {
 
 #[test]
 fn four_ranges_of_64_bins(rt: HostRuntime) {
+    let rt = &rt;
     let mut board = PlainBoard::new(6, 2);
     for (number, low) in [(0, 48), (1, 32), (2, 16), (3, 0)] {
-        let range = claimed(&rt, &mut board);
-        assert_same(&rt, bins_of(&range), (6, number, low, low + 16));
-        assert_same(&rt, board.report(range), low == 0);
+        let range = claimed(rt, &mut board);
+        assert_same(rt, bins_of(&range), (6, number, low, low + 16));
+        assert_same(rt, board.report(range), low == 0);
     }
-    assert_same(&rt, matches!(board.try_claim(), Attempt::Nothing), true);
-    assert_same(&rt, matches!(board.try_claim(), Attempt::Nothing), true);
+    assert_same(rt, matches!(board.try_claim(), Attempt::Nothing), true);
+    assert_same(rt, matches!(board.try_claim(), Attempt::Nothing), true);
 }
 
 #[test]
 fn ranges_that_are_reported_in_another_order(rt: HostRuntime) {
+    let rt = &rt;
     let mut board = PlainBoard::new(10, 3);
-    let upper = claimed(&rt, &mut board);
-    let second = claimed(&rt, &mut board);
-    assert_same(&rt, bins_of(&second), (10, 1, 940, 982));
-    assert_same(&rt, board.report(second), false);
-    assert_same(&rt, board.report(upper), false);
+    let upper = claimed(rt, &mut board);
+    let second = claimed(rt, &mut board);
+    assert_same(rt, bins_of(&second), (10, 1, 940, 982));
+    assert_same(rt, board.report(second), false);
+    assert_same(rt, board.report(upper), false);
     for number in 2..25u64 {
-        let range = claimed(&rt, &mut board);
-        assert_same(&rt, range.number(), number);
-        assert_same(&rt, board.report(range), number == 24);
+        let range = claimed(rt, &mut board);
+        assert_same(rt, range.number(), number);
+        assert_same(rt, board.report(range), number == 24);
     }
-    assert_same(&rt, matches!(board.try_claim(), Attempt::Nothing), true);
+    assert_same(rt, matches!(board.try_claim(), Attempt::Nothing), true);
 }
 
 #[test]
 fn range_of_another_board_is_not_reported(rt: HostRuntime) {
+    let rt = &rt;
     let mut board = PlainBoard::new(5, 1);
     let mut smaller = PlainBoard::new(4, 1);
     let mut same = PlainBoard::new(5, 1);
-    assert_same(&rt, board.report(claimed(&rt, &mut smaller)), false);
-    assert_same(&rt, board.report(claimed(&rt, &mut same)), false);
-    let range = claimed(&rt, &mut board);
-    assert_same(&rt, board.report(range), true);
+    assert_same(rt, board.report(claimed(rt, &mut smaller)), false);
+    assert_same(rt, board.report(claimed(rt, &mut same)), false);
+    let range = claimed(rt, &mut board);
+    assert_same(rt, board.report(range), true);
 }
 
 #[test]
 fn eight_seats_can_be_out(rt: HostRuntime) {
+    let rt = &rt;
     let mut board = PlainBoard::new(4, 1);
     board.give_seat();
     for _ in 0..SEATS {
-        assert_same(&rt, board.take_seat(), true);
+        assert_same(rt, board.take_seat(), true);
     }
-    assert_same(&rt, board.take_seat(), false);
+    assert_same(rt, board.take_seat(), false);
     board.give_seat();
-    assert_same(&rt, board.take_seat(), true);
-    assert_same(&rt, board.take_seat(), false);
+    assert_same(rt, board.take_seat(), true);
+    assert_same(rt, board.take_seat(), false);
 }
 
 // Claims a range at both boards and reports it. Whether the ranges and the reports are alike; `None` if neither board has a range.

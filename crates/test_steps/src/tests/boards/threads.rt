@@ -92,8 +92,9 @@ fn four_threads_get_a_short_range_once(rt: HostRuntime) {
 
 #[test]
 fn two_threads_share_a_table(rt: HostRuntime) -> Result<(), Fail> {
-    let (one, two) = two_shares(&rt, rt.alloc(), 10, 4)?;
-    assert_same(&rt, one.numbers.len().saturating_add(two.numbers.len()), 32);
-    assert_same(&rt, one.was_last != two.was_last, true);
+    let rt = &rt;
+    let (one, two) = two_shares(rt, rt.alloc(), 10, 4)?;
+    assert_same(rt, one.numbers.len().saturating_add(two.numbers.len()), 32);
+    assert_same(rt, one.was_last != two.was_last, true);
     Ok(())
 }

@@ -7,10 +7,11 @@ use flurry_steps_control::{Advice, Control, wanted_table};
 
 #[test]
 fn count_advises_at_the_threshold(rt: HostRuntime) {
+    let rt = &rt;
     let mut room = empty_room(rt.alloc(), 0);
     let mut control = Control::new();
-    assert_same(&rt, control.count(20), Advice::Enough);
-    assert_same(&rt, control.open(4, &mut room).expect(&rt, "memory"), 4);
+    assert_same(rt, control.count(20), Advice::Enough);
+    assert_same(rt, control.open(4, &mut room).expect(rt, "memory"), 4);
     for (delta, advice, len) in [
         (-9, Advice::Enough, 11),
         (1, Advice::Begin, 12),
@@ -21,24 +22,25 @@ fn count_advises_at_the_threshold(rt: HostRuntime) {
         (1, Advice::Enough, 0),
         (12, Advice::Begin, 12),
     ] {
-        assert_same_at(&rt, delta, control.count(delta), advice);
-        assert_same_at(&rt, delta, control.len(), len);
+        assert_same_at(rt, delta, control.count(delta), advice);
+        assert_same_at(rt, delta, control.len(), len);
     }
 }
 
 #[test]
 fn count_stays_in_its_range(rt: HostRuntime) {
+    let rt = &rt;
     let mut control = Control::new();
-    assert_same(&rt, control.len(), 0);
+    assert_same(rt, control.len(), 0);
     let _advice = control.count(i64::MAX);
     let _advice = control.count(1);
-    assert_same(&rt, control.len(), i64::MAX as usize);
+    assert_same(rt, control.len(), i64::MAX as usize);
     let _advice = control.count(i64::MIN);
-    assert_same(&rt, control.len(), 0);
+    assert_same(rt, control.len(), 0);
     let _advice = control.count(i64::MIN);
     let _advice = control.count(i64::MAX);
     let _advice = control.count(2);
-    assert_same(&rt, control.len(), 1);
+    assert_same(rt, control.len(), 1);
 }
 
 #[test]

@@ -2,7 +2,7 @@
 
 use super::super::assert_same;
 use super::{
-    Map, NONE, ONE_AND_SEVENTEEN, Row, Told, empty_map, go_on, run, seen_by, steps, value,
+    Close, Map, NONE, ONE_AND_SEVENTEEN, Row, closes_with, empty_map, go_on, run, seen_by, steps,
 };
 use flurry_bins_slots::{ComputeFn, NoFn};
 use flurry_steps::party::{Call, Event, OwnedCall, Party};
@@ -33,7 +33,7 @@ fn removes(
     rt: &(impl Abort + AllocGlobal),
     map: &mut Map,
     seen: Seen<u64, u64>,
-) -> (Vec<Event>, Told) {
+) -> (Vec<Event>, Close) {
     let call: Call<&u64, u64, u64, NoFn> = Call::RemoveSeen(seen);
     run(rt, map, 1, call)
 }
@@ -44,7 +44,7 @@ fn reads_and_removes(
     rt: &(impl Abort + AllocGlobal),
     before: &[Row<'_>],
     events: &[Event],
-    reply: Told,
+    reply: Close,
     after: &[Row<'_>],
 ) {
     let mut map = empty_map(rt.alloc(), 1, 0);
@@ -64,52 +64,54 @@ fn a_pair_is_removed_as_it_was_read(rt: HostRuntime) {
     let events = [Event::Silent, Event::Decide, Event::Silent];
     let after = [
         Row::Replies(1, OwnedCall::Get(1), NONE),
-        Row::Replies(17, OwnedCall::Get(17), value(Some(0))),
+        Row::Replies(17, OwnedCall::Get(17), closes_with(Some(0))),
         Row::Pairs(1),
     ];
-    reads_and_removes(&rt, &[], &events, value(Some(0)), &after);
+    reads_and_removes(&rt, &[], &events, closes_with(Some(0)), &after);
 }
 
 // The value was written again after it was read, so the pair stays.
 #[test]
 fn a_pair_that_was_rewritten_stays(rt: HostRuntime) {
-    let before = [Row::Replies(1, OwnedCall::Insert(1, 0), value(Some(0)))];
+    let before = [Row::Replies(1, OwnedCall::Insert(1, 0), closes_with(Some(0)))];
     let events = [Event::Silent, Event::Decide];
-    let after = [Row::Replies(1, OwnedCall::Get(1), value(Some(0)))];
+    let after = [Row::Replies(1, OwnedCall::Get(1), closes_with(Some(0)))];
     reads_and_removes(&rt, &before, &events, NONE, &after);
 }
 
 // The key was removed and inserted again, so the new pair stays.
 #[test]
 fn a_pair_that_came_again_stays(rt: HostRuntime) {
+    let rt = &rt;
     let mut map = empty_map(rt.alloc(), 1, 0);
-    let seen = first_read::<NoFn>(&rt, &mut map);
-    let removed = Row::Replies(1, OwnedCall::Remove(1), value(Some(0)));
-    go_on(&rt, &mut map, &[removed]);
-    let further = seen.try_clone().expect(&rt, "a further owner");
-    assert_same(&rt, removes(&rt, &mut map, further).1, NONE);
+    let seen = first_read::<NoFn>(rt, &mut map);
+    let removed = Row::Replies(1, OwnedCall::Remove(1), closes_with(Some(0)));
+    go_on(rt, &mut map, &[removed]);
+    let further = seen.try_clone().expect(rt, "a further owner");
+    assert_same(rt, removes(rt, &mut map, further).1, NONE);
     let inserted = Row::Replies(1, OwnedCall::Insert(1, 0), NONE);
-    go_on(&rt, &mut map, &[inserted]);
-    assert_same(&rt, removes(&rt, &mut map, seen).1, NONE);
-    go_on(&rt, &mut map, &[Row::Pairs(2)]);
+    go_on(rt, &mut map, &[inserted]);
+    assert_same(rt, removes(rt, &mut map, seen).1, NONE);
+    go_on(rt, &mut map, &[Row::Pairs(2)]);
     drop(map);
 }
 
 // Between the read and the removal, the table is doubled twice, and the bin moves each time.
 #[test]
 fn a_pair_that_moved_is_removed(rt: HostRuntime) {
-    let before = [Row::Takes(0, OwnedCall::Reserve(16), 60, Told::Ended)];
-    reads_and_removes(&rt, &before, &[], value(Some(0)), &[Row::Pairs(1)]);
+    let before = [Row::Takes(0, OwnedCall::Reserve(16), 60, Close::End)];
+    reads_and_removes(&rt, &before, &[], closes_with(Some(0)), &[Row::Pairs(1)]);
 }
 
 #[test]
 fn a_map_without_a_table_has_no_such_pair(rt: HostRuntime) {
+    let rt = &rt;
     let mut read = empty_map(rt.alloc(), 1, 0);
-    let seen = first_read::<NoFn>(&rt, &mut read);
+    let seen = first_read::<NoFn>(rt, &mut read);
     drop(read);
     let mut map = empty_map(rt.alloc(), 1, 0);
-    let (events, told) = removes(&rt, &mut map, seen);
-    assert_same(&rt, (events.as_slice(), told), (&[Event::Decide], NONE));
-    go_on(&rt, &mut map, &[Row::Table(None)]);
+    let (events, told) = removes(rt, &mut map, seen);
+    assert_same(rt, (events.as_slice(), told), (&[Event::Decide], NONE));
+    go_on(rt, &mut map, &[Row::Table(None)]);
     drop(map);
 }

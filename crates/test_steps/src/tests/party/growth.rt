@@ -1,7 +1,7 @@
 //! Calls that make the table larger, and calls that meet the growth of another call.
 
 use super::super::assert_same;
-use super::{Act, Map, NONE, Row, Told, empty_map, follows, go_on, goes_through, value};
+use super::{Act, Close, Map, NONE, Row, closes_with, empty_map, follows, go_on, goes_through};
 use flurry_base::reply::KeptReply;
 use flurry_steps::party::{Event, OwnedCall, Want};
 use std::process::Abort;
@@ -18,7 +18,7 @@ fn twelfth_key(rt: &(impl Abort + AllocGlobal), map: &mut Map) {
         Act::KeepsReply,
         Act::Moves(4, 16),
         Act::Map(Row::Table(Some(4))),
-        Act::Map(Row::Answers(7, OwnedCall::Get(7), &looks_on, value(Some(0)))),
+        Act::Map(Row::Answers(7, OwnedCall::Get(7), &looks_on, closes_with(Some(0)))),
         Act::Step(Event::Silent),
         Act::Step(Event::Published(5)),
         Act::Step(Event::Silent),
@@ -31,11 +31,12 @@ fn twelfth_key(rt: &(impl Abort + AllocGlobal), map: &mut Map) {
 
 #[test]
 fn twelfth_key_doubles_the_table(rt: HostRuntime) {
+    let rt = &rt;
     let mut map = empty_map(rt.alloc(), 1, 0);
-    go_on(&rt, &mut map, &[Row::InsertsEach(11, 3)]);
-    twelfth_key(&rt, &mut map);
+    go_on(rt, &mut map, &[Row::InsertsEach(11, 3)]);
+    twelfth_key(rt, &mut map);
     let rows = [Row::Pairs(12), Row::RemovesEach(12), Row::Pairs(0)];
-    go_on(&rt, &mut map, &rows);
+    go_on(rt, &mut map, &rows);
     drop(map);
 }
 
@@ -45,7 +46,7 @@ fn reserve_of_nothing_opens_one_bin(rt: HostRuntime) {
     goes_through(
         &rt,
         0,
-        &[Row::Answers(0, OwnedCall::Reserve(0), &opens, Told::Ended)],
+        &[Row::Answers(0, OwnedCall::Reserve(0), &opens, Close::End)],
     );
 }
 
@@ -61,7 +62,7 @@ fn reserves_thirty_two(rt: &(impl Abort + AllocGlobal), map: &mut Map) {
         Act::Step(Event::Silent),
         Act::Step(Event::Silent),
         Act::Wants(Want::Done),
-        Act::Replies(Told::Ended),
+        Act::Replies(Close::End),
         Act::Map(Row::Table(Some(7))),
     ];
     follows(rt, map, 0, OwnedCall::Reserve(32), &acts);
@@ -73,7 +74,7 @@ fn reserves(rt: HostRuntime) {
     reserves_thirty_two(&rt, &mut map);
     // There is enough room already.
     let silent = [Event::Silent, Event::Silent];
-    let row = Row::Answers(0, OwnedCall::Reserve(40), &silent, Told::Ended);
+    let row = Row::Answers(0, OwnedCall::Reserve(40), &silent, Close::End);
     go_on(&rt, &mut map, &[row]);
     drop(map);
 }
@@ -90,7 +91,7 @@ fn list_of_eight_grows_before_the_count(rt: HostRuntime) {
         Act::GoesOnTo(1000, Event::Silent),
         Act::Map(Row::Table(Some(7))),
         Act::Map(Row::Pairs(9)),
-        Act::Replies(Told::Key(KeptReply::New(1))),
+        Act::Replies(Close::Reply(KeptReply::New(1))),
     ];
     follows(&rt, &mut map, 0, OwnedCall::TryInsert(8, 1), &acts);
     drop(map);
@@ -124,7 +125,7 @@ fn others_meet_a_growth(rt: &(impl Abort + AllocGlobal), map: &mut Map) {
         Act::Map(Row::Answers(63, OwnedCall::Remove(63), &finds_nothing, NONE)),
         Act::Ends(19),
         Act::Map(Row::Table(Some(7))),
-        Act::Map(Row::Replies(2, OwnedCall::Get(2), value(Some(0)))),
+        Act::Map(Row::Replies(2, OwnedCall::Get(2), closes_with(Some(0)))),
     ];
     follows(rt, map, 0, OwnedCall::Reserve(31), &acts);
 }

@@ -1,13 +1,13 @@
 //! Calls for whose tables memory cannot be allocated.
 
-use super::{NONE, Row, Told, goes_through};
+use super::{Close, NONE, Row, goes_through};
 use flurry_steps::party::{Event, OwnedCall};
 
 #[test]
 fn refused_first_table_refuses_an_insertion(rt: HostRuntime) {
     let events = [Event::Refused];
     let rows = [
-        Row::Answers(1, OwnedCall::Insert(1, 1), &events, Told::Refused),
+        Row::Answers(1, OwnedCall::Insert(1, 1), &events, Close::Refused),
         Row::Table(None),
         Row::Takes(1, OwnedCall::Insert(1, 0), 3, NONE),
     ];
@@ -17,11 +17,11 @@ fn refused_first_table_refuses_an_insertion(rt: HostRuntime) {
 #[test]
 fn refused_table_refuses_a_reserve(rt: HostRuntime) {
     let first = [Event::Refused];
-    let rows = [Row::Answers(0, OwnedCall::Reserve(9), &first, Told::Refused)];
+    let rows = [Row::Answers(0, OwnedCall::Reserve(9), &first, Close::Refused)];
     goes_through(&rt, 1, &rows);
     let larger = [Event::Opened(6), Event::Refused];
     let rows = [
-        Row::Answers(0, OwnedCall::Reserve(32), &larger, Told::Refused),
+        Row::Answers(0, OwnedCall::Reserve(32), &larger, Close::Refused),
         Row::Table(Some(6)),
     ];
     goes_through(&rt, 2, &rows);

@@ -5,8 +5,8 @@ ghost use Rattle.flurry_steps_sweep.specs.Sweep.{swept_part};
 
 use super::super::{assert_same, assert_same_at};
 use super::{
-    Act, Map, NONE, ONE_AND_SEVENTEEN, Row, Told, does, empty_map, follows, go_on, goes_through,
-    lent, plain, value,
+    Act, Close, Map, NONE, ONE_AND_SEVENTEEN, Row, closes_with, does, empty_map, follows, go_on,
+    goes_through, lent, without_owners,
 };
 use flurry_bins_slots::Slot;
 use flurry_steps::party::{Event, OwnedCall, Want};
@@ -81,8 +81,8 @@ fn has_ended(rt: &impl Abort, sweep: &mut Sweep<u64, u64>) {
     let seen = (sweep.want(), sweep.reply().is_some());
     assert_same(rt, seen, (Want::Done, true));
     let reply = sweep.take_reply().expect(rt, "the call has ended");
-    let seen = (plain(reply), sweep.want());
-    assert_same(rt, seen, (Told::Ended, Want::Done));
+    let seen = (without_owners(reply), sweep.want());
+    assert_same(rt, seen, (Close::End, Want::Done));
     assert_same(
         rt,
         sweep.reply().is_some() || sweep.take_reply().is_some(),
@@ -209,7 +209,7 @@ fn a_walk_reads_each_pair_once(rt: HostRuntime) {
 #[test]
 fn a_walk_follows_bins_that_move(rt: HostRuntime) {
     let strides = [
-        Stride::Map(Row::Takes(0, OwnedCall::Reserve(16), 60, Told::Ended)),
+        Stride::Map(Row::Takes(0, OwnedCall::Reserve(16), 60, Close::End)),
         Stride::Silent(5),
         Stride::Reads(17, 0),
         Stride::Silent(100),
@@ -222,7 +222,7 @@ fn a_walk_follows_bins_that_move(rt: HostRuntime) {
 #[test]
 fn a_walk_reads_no_key_twice(rt: HostRuntime) {
     let strides = [
-        Stride::Map(Row::Replies(1, OwnedCall::Remove(1), value(Some(0)))),
+        Stride::Map(Row::Replies(1, OwnedCall::Remove(1), closes_with(Some(0)))),
         Stride::Map(Row::Replies(1, OwnedCall::Insert(1, 5), NONE)),
         Stride::Reads(17, 0),
         Stride::Silent(15),
@@ -236,7 +236,7 @@ fn seen_before_a_write(rt: &(impl Abort + AllocGlobal), map: &mut Map) -> Seen<u
     let mut walk = Sweep::walk();
     walks(rt, &mut walk, map, &READS_ONE);
     let strides = [
-        Stride::Map(Row::Replies(1, OwnedCall::Insert(1, 5), value(Some(0)))),
+        Stride::Map(Row::Replies(1, OwnedCall::Insert(1, 5), closes_with(Some(0)))),
         Stride::LastRead(Some((1, 0))),
     ];
     walks(rt, &mut walk, map, &strides);
@@ -248,12 +248,13 @@ fn seen_before_a_write(rt: &(impl Abort + AllocGlobal), map: &mut Map) -> Seen<u
 // What was read last stays as it was read, even if another call writes its key.
 #[test]
 fn what_was_read_stays(rt: HostRuntime) {
+    let rt = &rt;
     let mut map = empty_map(rt.alloc(), 1, 0);
-    go_on(&rt, &mut map, &ONE_AND_SEVENTEEN);
-    let seen = seen_before_a_write(&rt, &mut map);
-    let further = seen.try_clone().expect(&rt, "a further owner");
+    go_on(rt, &mut map, &ONE_AND_SEVENTEEN);
+    let seen = seen_before_a_write(rt, &mut map);
+    let further = seen.try_clone().expect(rt, "a further owner");
     drop(seen);
-    assert_same(&rt, (further.key(), further.value()), (&1, &0));
+    assert_same(rt, (further.key(), further.value()), (&1, &0));
     drop(further);
     drop(map);
 }
@@ -261,17 +262,17 @@ fn what_was_read_stays(rt: HostRuntime) {
 #[test]
 fn a_map_without_a_table_has_nothing_to_go_over(rt: HostRuntime) {
     let mut map = empty_map(rt.alloc(), 1, 0);
-    let ends_at_once = [
+    let ends_at_once = &[
         Stride::Silent(1),
         Stride::HasEnded,
         Stride::LastRead(None),
         Stride::Map(Row::Table(None)),
     ];
     let mut walk = Sweep::walk();
-    walks(&rt, &mut walk, &mut map, &ends_at_once);
+    walks(&rt, &mut walk, &mut map, ends_at_once);
     drop(walk);
     let mut clear = Sweep::clear();
-    walks(&rt, &mut clear, &mut map, &ends_at_once);
+    walks(&rt, &mut clear, &mut map, ends_at_once);
     drop(clear);
     drop(map);
 }
@@ -296,22 +297,23 @@ fn a_walk_sets_out_from_a_published_table(rt: HostRuntime) {
 // At an unborn bin, a walk and a clear stay.
 #[test]
 fn an_unborn_bin_is_met_again(rt: HostRuntime) {
+    let rt = &rt;
     let mut map = empty_map(rt.alloc(), 1, 0);
-    go_on(&rt, &mut map, &ONE_AND_SEVENTEEN);
+    go_on(rt, &mut map, &ONE_AND_SEVENTEEN);
     let mut walk = Sweep::walk();
     let mut clear = Sweep::clear();
-    walks(&rt, &mut walk, &mut map, &[Stride::Silent(1)]);
+    walks(rt, &mut walk, &mut map, &[Stride::Silent(1)]);
     walks(
-        &rt,
+        rt,
         &mut clear,
         &mut map,
         &[Stride::Silent(1), Stride::FirstIsUnborn],
     );
     let strides = [Stride::Silent(2), Stride::Wants(Want::Look(4, 0))];
-    walks(&rt, &mut walk, &mut map, &strides);
+    walks(rt, &mut walk, &mut map, &strides);
     drop(walk);
     let strides = [Stride::Silent(2), Stride::Wants(Want::Bin(4, 0))];
-    walks(&rt, &mut clear, &mut map, &strides);
+    walks(rt, &mut clear, &mut map, &strides);
     drop(clear);
     drop(map);
 }
@@ -319,20 +321,21 @@ fn an_unborn_bin_is_met_again(rt: HostRuntime) {
 // While the growth has stopped, the clear wipes the 63 bins that have not moved, and the halves of the one that has.
 #[test]
 fn a_clear_beside_a_growth_wipes_every_bin(rt: HostRuntime) {
+    let rt = &rt;
     let mut map = empty_map(rt.alloc(), 2, 0);
     let rows = [
-        Row::Replies(0, OwnedCall::Reserve(20), Told::Ended),
+        Row::Replies(0, OwnedCall::Reserve(20), Close::End),
         Row::Takes(50, OwnedCall::Insert(50, 0), 3, NONE),
         Row::Takes(2, OwnedCall::Insert(2, 0), 3, NONE),
     ];
-    go_on(&rt, &mut map, &rows);
+    go_on(rt, &mut map, &rows);
     let stops = [
         Act::Step(Event::Silent),
         Act::Step(Event::Placed(7)),
         Act::Step(Event::Silent),
         Act::Step(Event::Moved(6, 63)),
     ];
-    follows(&rt, &mut map, 0, OwnedCall::Reserve(30), &stops);
+    follows(rt, &mut map, 0, OwnedCall::Reserve(30), &stops);
     let mut clear = Sweep::clear();
     let strides = [
         Stride::Silent(1),
@@ -344,10 +347,10 @@ fn a_clear_beside_a_growth_wipes_every_bin(rt: HostRuntime) {
         Stride::Silent(1),
         Stride::HasEnded,
     ];
-    walks(&rt, &mut clear, &mut map, &strides);
+    walks(rt, &mut clear, &mut map, &strides);
     drop(clear);
     let rows = [Row::Pairs(0), Row::Replies(2, OwnedCall::Get(2), NONE)];
-    go_on(&rt, &mut map, &rows);
+    go_on(rt, &mut map, &rows);
     drop(map);
 }
 
@@ -364,7 +367,7 @@ fn a_walk_is_a_party(rt: HostRuntime) {
         Act::LastRead(Some((1, 0))),
         Act::Seen(1, 0, 1),
         Act::Ends(16),
-        Act::Replies(Told::Ended),
+        Act::Replies(Close::End),
         Act::LastRead(Some((17, 0))),
     ];
     follows(&rt, &mut map, 0, OwnedCall::Walk, &acts);
@@ -377,7 +380,7 @@ fn a_clear_is_a_party(rt: HostRuntime) {
     let rows = [
         one,
         seventeen,
-        Row::Takes(0, OwnedCall::Clear, 18, Told::Ended),
+        Row::Takes(0, OwnedCall::Clear, 18, Close::End),
         Row::Pairs(0),
         Row::Replies(17, OwnedCall::Get(17), NONE),
     ];

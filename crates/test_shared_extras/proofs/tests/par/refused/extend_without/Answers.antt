@@ -1,5 +1,0 @@
-use Rattle.std.proofs.Crossing.{frees}
-use Rattle.test_shared_extras.proofs.tests.par.refused.extend_without.Goals as goal
-
-pub refuse_in-requires-frees-A-Allocator : goal.refuse_in-requires-frees-A-Allocator
-refuse_in-requires-frees-A-Allocator g c κs within = record { frees = λ lent. frees.frees lent.now.inner }
