@@ -1,10 +1,11 @@
 -- A table of twice as many bins holds the same pairs.
-use Rattle.std.proofs.Common.{◌≡◌, ℕ, zero, suc, ◌+◌, ◌-◌, ◌*◌, ◌/◌, ◌%◌, ◌^◌, ◌<◌, ◌≤◌, Bool, true, false, not, cond, List, [], ◌∷◌, ◌++◌, length, map, filter, get_or, set, drop, replicate, Option, Some, None, is_some, IsSome, option_map, refl, sym, ap, ◌∙◌, subst, inl, inr, add-one, pow-suc, lit≤, arith, Ordering, Less, Equal, Greater}
+use Rattle.std.proofs.Common.{◌≡◌, ℕ, zero, suc, ◌+◌, ◌-◌, ◌*◌, ◌/◌, ◌%◌, ◌^◌, ◌<◌, ◌≤◌, Bool, true, false, not, cond, List, [], ◌∷◌, ◌++◌, length, map, filter, get_or, set, drop, replicate, Option, Some, None, is_some, IsSome, option_map, refl, sym, ap, ◌∙◌, subst, inl, inr, add-one, pow-suc, lit≤, mul_comm, mul_assoc, arith, Ordering, Less, Equal, Greater}
 use Rattle.std.specs.Ordering.{is_eq, nat_cmp, ordering_then}
 use Rattle.std.specs.Cmp.{IsTotalOrder}
 use Rattle.std.specs.List.{AllByRecursion}
 use Rattle.std.proofs.lemmas.Bool.Decides.{nat_tests}
 use Rattle.std.proofs.lemmas.Bool.{cases_lt}
+use Rattle.std.proofs.Math.Nat.{le-mul_of_pos_right, mul-le-mul_left}
 use Rattle.std.proofs.Math.Pow.{pow_mono}
 use Rattle.std.proofs.lemmas.Nat.{pow_pos}
 use Rattle.std.proofs.lemmas.List.{get_or-append_right, length-append, length-map, length-replicate}
@@ -20,7 +21,7 @@ use Rattle.flurry_base.specs.HashOrder.{hash_then_key}
 use Rattle.flurry_seq.specs.Table.{bin_of, is_low, is_in_half, half_of}
 use Rattle.flurry_base.proofs.FiniteMapLaws.{IsFiniteMap-map_of_pairs, IsFiniteMap-filter, IsFiniteMap-nil, same_map}
 use Rattle.flurry_base.proofs.HashOrderLaws.{hash_then_key_total}
-use Rattle.flurry_seq.specs.Table.{pair_of, all_pairs, entry_in, bins_doubled, bins_with}
+use Rattle.flurry_seq.specs.Table.{pair_of, all_pairs, entry_in, bins_doubled, bins_after, bins_with, IsTimesPower}
 use Rattle.flurry_seq.specs.Contents.{first_bins}
 use Rattle.std.specs.Prelude.{◌==◌}
 use Rattle.flurry_seq.specs.Invariant.{IsBinAt, AreBinsFrom, IsTable, IsTableSize}
@@ -86,6 +87,33 @@ wanted_size s = elim (cases_lt s (2 ^ 29)) [
 
 pub length-doubled : {K V : Type 0} (bins : List (List ((ℕ × K) × V))) → length (bins_doubled bins) ≡ 2 * length bins
 length-doubled bins = simp (length-append, length-map) (omega arith)
+
+twice_times : (n p : ℕ) → 2 * (n * p) ≡ n * (p * 2)
+twice_times n p = mul_comm 2 (n * p) ∙ mul_assoc n p 2
+
+pub length-after : {K V : Type 0} (j : ℕ) (bins : List (List ((ℕ × K) × V))) → length (bins_after j bins) ≡ length bins * 2 ^ j
+length-after zero bins = omega arith
+length-after (suc j) bins = rw pow-suc (length-doubled (bins_after j bins) ∙ ap (λ n. 2 * n) (length-after j bins) ∙ twice_times (length bins) (2 ^ j))
+
+after_some : {K V : Type 0} (j : ℕ) (bins : List (List ((ℕ × K) × V))) → 0 < length bins → 0 < length (bins_after j bins)
+after_some j bins some = let more : length bins ≤ length bins * 2 ^ j = le-mul_of_pos_right (length bins) (pow_pos j) in rw length-after (omega arith)
+
+-- of the numbers n, 2 * n, 4 * n and so on one that is below another is at most half of it
+half_way : (n i j : ℕ) → n * 2 ^ i < n * 2 ^ j → 2 * (n * 2 ^ i) ≤ n * 2 ^ j
+half_way n i j lt = elim (cases_lt i j) [
+  | inl less ↦
+      let power : 2 ^ suc i ≤ 2 ^ j = pow_mono (omega arith) in
+      let twice : n * 2 ^ suc i ≤ n * 2 ^ j = mul-le-mul_left n power in
+      rw (twice_times, ← pow-suc) twice
+  | inr more ↦ let no : n * 2 ^ j ≤ n * 2 ^ i = mul-le-mul_left n (pow_mono more) in absurd (omega arith)
+]
+
+-- while there are fewer bins than so many, of which there are some doublings, there is room for one doubling
+pub twice_fits : {K V : Type 0} (i : ℕ) (old : List (List ((ℕ × K) × V))) (m n : ℕ) → IsTimesPower (length old) m → n ≡ length (bins_after i old) → n < m → 2 * n ≤ m
+twice_fits i old m n (j, is) at less =
+    let here : n ≡ length old * 2 ^ i = at ∙ length-after i old in
+    let fits : 2 * (length old * 2 ^ i) ≤ length old * 2 ^ j = half_way (length old) i j (omega arith) in
+    omega arith
 
 module _ {K V : Type 0} {cmp : K → K → Ordering} (o : IsTotalOrder cmp) (hash : K → ℕ) where
   placed_half : (n i : ℕ) (high : Bool) (b : List ((ℕ × K) × V)) → 0 < n → AllByRecursion (λ e. (e.0.0 ≡ hash e.0.1) × (bin_of n e.0.0 ≡ i)) b
@@ -164,10 +192,19 @@ module _ {K V : Type 0} {cmp : K → K → Ordering} (o : IsTotalOrder cmp) (has
       ∙ ap (option_map pair_of) (entry_doubled o hash bins (hash q) q some)
       ∙ sym (at_map o hash respects bins q h))
 
-  pub IsTable-doubled : (bins : List (List ((ℕ × K) × V))) (len : ℕ) → 0 < length bins → length bins < 2 ^ MAX_TABLE → IsTable cmp hash bins len → IsTable cmp hash (bins_doubled bins) len
-  IsTable-doubled bins len some less t = record {
-    placed = doubled-placed o hash bins some t.placed;
-    count = rw (map_of_pairs-doubled bins some t.placed) t.count;
+  after-placed : (j : ℕ) (bins : List (List ((ℕ × K) × V))) → 0 < length bins → AreBinsFrom cmp hash (length bins) 0 bins → AreBinsFrom cmp hash (length (bins_after j bins)) 0 (bins_after j bins)
+  after-placed zero bins some h = h
+  after-placed (suc j) bins some h = doubled-placed o hash (bins_after j bins) (after_some j bins some) (after-placed j bins some h)
+
+  -- nor do several
+  pub map_of_pairs-after : (j : ℕ) (bins : List (List ((ℕ × K) × V))) → 0 < length bins → AreBinsFrom cmp hash (length bins) 0 bins → map_of_pairs cmp (all_pairs (bins_after j bins)) ≡ map_of_pairs cmp (all_pairs bins)
+  map_of_pairs-after zero bins some h = refl
+  map_of_pairs-after (suc j) bins some h = map_of_pairs-doubled (bins_after j bins) (after_some j bins some) (after-placed j bins some h) ∙ map_of_pairs-after j bins some h
+
+  pub IsTable-after : (j : ℕ) (bins : List (List ((ℕ × K) × V))) (len : ℕ) → 0 < length bins → IsTable cmp hash bins len → IsTable cmp hash (bins_after j bins) len
+  IsTable-after j bins len some t = record {
+    placed = after-placed j bins some t.placed;
+    count = rw (map_of_pairs-after j bins some t.placed) t.count;
     few = t.few;
   }
 

@@ -1,5 +1,5 @@
 -- A table that is made for its pairs is doubled only where keys share a bin.
-use Rattle.std.proofs.Common.{◌≡◌, ℕ, zero, suc, ◌+◌, ◌-◌, ◌*◌, ◌/◌, ◌^◌, ◌<◌, ◌≤◌, ◌⊎◌, Bool, true, false, not, cond, List, [], ◌∷◌, ◌++◌, length, Option, Some, None, IsSome, Result, Ok, Err, OnOk, lit≤, refl, sym, ap, ◌∙◌, subst, inl, inr, mul_assoc, arith}
+use Rattle.std.proofs.Common.{◌≡◌, ℕ, zero, suc, ◌+◌, ◌-◌, ◌*◌, ◌/◌, ◌^◌, ◌<◌, ◌≤◌, ◌⊎◌, Bool, true, false, not, cond, List, [], ◌∷◌, ◌++◌, length, Option, Some, None, IsSome, Result, Ok, Err, OnOk, OnErr, lit≤, refl, sym, ap, ◌∙◌, subst, inl, inr, mul_assoc, arith}
 use Rattle.std.specs.Prelude.{◌==◌, IsTrue}
 use Rattle.std.specs.Option.{IsNone}
 use Rattle.std.specs.Result.{is_err}
@@ -13,8 +13,8 @@ use Rattle.std.proofs.Math.Nat.{le-mul_of_pos_right}
 use Rattle.std.proofs.Math.Pow.{pow_mono}
 use Rattle.flurry_base.specs.BinSizes.{asks_for_growth}
 use Rattle.flurry_base.specs.Sizes.{wanted_of, threshold_of, IsTooSmall, IsOnTheWay}
-use Rattle.flurry_base.proofs.SizeLaws.{wanted_of-less, wanted_of-most}
-use Rattle.flurry_seq.specs.Contents.{first_bins}
+use Rattle.flurry_base.proofs.SizeLaws.{wanted_of-less, wanted_of-most, way_start}
+use Rattle.flurry_seq.specs.Contents.{Contents, contents, first_bins}
 use Rattle.flurry_seq.specs.Growth.{bins_for, IsTableFrom, IsTableAfter, HasRoom}
 use Rattle.flurry_seq.specs.Invariant.{IsTableSize}
 use Rattle.flurry_seq.proofs.GrowthLemmas.{wanted_some}
@@ -37,6 +37,11 @@ way_on n w b m (j, is, before) (k, next, after) = (
         subst (λ x. IsTooSmall x w) at (after (i - j) (omega arith))
   ],
 )
+
+-- where a table of n bins was to become one of m on the way to w, and stays where that is refused, it is on the way
+pub way_left : {A E K V S : Type 0} (r : Result A E) (w m : ℕ) (old new : Contents K V S) → IsOnTheWay old.bins w m → OnOk r (new ≡ contents old.pairs m old.hasher) → OnErr r (new ≡ old) → IsOnTheWay old.bins w new.bins
+way_left (Ok a) w m old new way ok err = rw ok way
+way_left (Err e) w m old new way ok err = rw err (way_start old.bins w)
 
 way_larger : (n w m : ℕ) → IsOnTheWay n w m → n ≤ m
 way_larger n w m (j, is, before) = let more : n ≤ n * 2 ^ j = le-mul_of_pos_right n (pow_pos j) in omega arith

@@ -13,7 +13,7 @@ use Rattle.flurry_base.specs.Sizes.{IsGrown}
 use Rattle.flurry_base.specs.declared.reply.KeptReply.{KeptReply}
 use Rattle.flurry_base.specs.declared.reply.KeptReply.TheVariants as kept
 use Rattle.flurry_seq.specs.Callable.{if_present}
-use Rattle.flurry_seq.specs.Contents.{Contents, SamePairs, with_pairs, asked_for, first_bins, IsLeftByReserve}
+use Rattle.flurry_seq.specs.Contents.{Contents, SamePairs, with_pairs, asked_for, first_bins}
 use Rattle.flurry_seq.specs.Equality.{maps_eq}
 use Rattle.flurry_seq.specs.Retain.{Retains}
 use Rattle.flurry_seq.specs.Shapes.{count_in, IsFit}
@@ -87,9 +87,7 @@ module _ {K V A : Type 0} where
       CallAnswers (Extend list) m r n = (r ≡ Done) × (n.pairs ≡ with_all cmp m.pairs list.items) × (n.hasher ≡ m.hasher)
 
     module _ {F P : Type 0} (cmp : K → K → Ordering) where
-      -- what a call that was refused leaves: the map, but that a `reserve` may have made its table larger, and an `extend` has
-      -- inserted a front of its list
+      -- what a call that was refused leaves: the map, but that an `extend` has inserted a front of its list
       abbrev pub CallRefused : Call K V S F P A → Contents K V S → Contents K V S → Type 0
-      CallRefused (Reserve a) m n = SamePairs m n × IsLeftByReserve m.bins (asked_for m a) n.bins
       CallRefused (Extend list) m n = (front rest : List (K × V)) × (list.items ≡ front ++ rest) × (n.pairs ≡ with_all cmp m.pairs front) × (n.hasher ≡ m.hasher)
       CallRefused call m n = n ≡ m

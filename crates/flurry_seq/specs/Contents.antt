@@ -1,7 +1,7 @@
 -- What an owned map is seen as.
-use Rattle.std.specs.Prelude.{◌≡◌, ◌⊎◌, ◌==◌, ◌+◌, ◌-◌, ◌^◌, min, length, ℕ, List, refl, if◌then◌else◌}
+use Rattle.std.specs.Prelude.{◌≡◌, ◌==◌, ◌+◌, ◌-◌, ◌^◌, min, length, ℕ, List, refl, if◌then◌else◌}
 use Rattle.std.specs.Coded.{Coded, code_by, coded×, coded_list, coded_ℕ}
-use Rattle.flurry_base.specs.Sizes.{wanted_of, IsOnTheWay}
+use Rattle.flurry_base.specs.Sizes.{wanted_of}
 
 -- the pairs, which are a finite map; the number of bins, 0 without a table; and the hasher
 pub record Contents (K V S : Type 0) : Type 0 where
@@ -33,7 +33,3 @@ module _ {K V S : Type 0} where
 -- where room for a table of w bins is made, the doubling begins at the bins that there are, or at w without a table
 abbrev pub first_bins : ℕ → ℕ → ℕ
 first_bins bins w = if bins == 0 then w else bins
-
--- what a refused `reserve` that asked for w bins may leave: as many bins as there were, or some on the way to w
-abbrev pub IsLeftByReserve : ℕ → ℕ → ℕ → Type 0
-IsLeftByReserve bins w left = (left ≡ bins) ⊎ IsOnTheWay (first_bins bins w) w left

@@ -1,5 +1,5 @@
 -- A table: its bins in order, each a finite map whose key is the hash and the key.
-use Rattle.std.specs.Prelude.{ℕ, ◌*◌, ◌%◌, nat_lt, not, List, [], ◌∷◌, ◌++◌, length, map, filter, slice_index_or, slice_set, Bool, true, false, Option, if◌then◌else◌}
+use Rattle.std.specs.Prelude.{◌≡◌, ℕ, zero, suc, ◌*◌, ◌^◌, ◌%◌, nat_lt, not, List, [], ◌∷◌, ◌++◌, length, map, filter, slice_index_or, slice_set, Bool, true, false, Option, if◌then◌else◌}
 use Rattle.std.specs.declared.cmp.Ordering.{Ordering}
 use Rattle.flurry_base.specs.FiniteMap.{pair_at, with_pair, without}
 use Rattle.flurry_base.specs.HashOrder.{hash_then_key}
@@ -15,6 +15,10 @@ is_low n hash = nat_lt (hash % (2 * n)) n
 -- whether the hash's bin is the high half of its bin before a doubling, or the low one
 abbrev pub is_in_half : ℕ → Bool → ℕ → Bool
 is_in_half n high hash = if high then not (is_low n hash) else is_low n hash
+
+-- m is n, 2 * n, 4 * n or so on
+abbrev pub IsTimesPower : ℕ → ℕ → Type 0
+IsTimesPower n m = (j : ℕ) × (m ≡ n * 2 ^ j)
 
 module _ {K V : Type 0} where
   -- the entries of that half, in the old order
@@ -41,6 +45,15 @@ module _ {K V : Type 0} where
   -- twice as many bins: first the low halves, and then the high ones
   abbrev pub bins_doubled : List (List ((ℕ × K) × V)) → List (List ((ℕ × K) × V))
   bins_doubled bins = map (half_of (length bins) false) bins ++ map (half_of (length bins) true) bins
+
+  -- the bins after so many doublings
+  abbrev pub bins_after : ℕ → List (List ((ℕ × K) × V)) → List (List ((ℕ × K) × V))
+  bins_after zero bins = bins
+  bins_after (suc j) bins = bins_doubled (bins_after j bins)
+
+  -- the bins were doubled until there were m
+  abbrev pub IsEnlarged : ℕ → List (List ((ℕ × K) × V)) → List (List ((ℕ × K) × V)) → Type 0
+  IsEnlarged m old new = (j : ℕ) × (m ≡ length old * 2 ^ j) × (new ≡ bins_after j old)
 
   module _ (cmp : K → K → Ordering) where
     -- what the table has at a hash and a key

@@ -12,7 +12,7 @@ ghost use Rattle.flurry_seq.specs.Invariant.{IsTableSize};
 ghost use Rattle.flurry_seq.specs.Numbers.{BinsBearZero};
 ghost use Rattle.flurry_seq.specs.MapsOfBins.{maps_of_bins};
 ghost use Rattle.flurry_seq.specs.Shapes.{count_in, IsFit};
-ghost use Rattle.flurry_seq.specs.Table.{bin_of, bin_at, entry_in, bins_with, bins_without, bins_doubled};
+ghost use Rattle.flurry_seq.specs.Table.{bin_of, bin_at, entry_in, bins_with, bins_without, bins_doubled, IsTimesPower, IsEnlarged};
 ghost use Rattle.flurry_base.specs.declared.sizes.TheConstants.{MAX_TABLE, MIN_TREEIFY_BINS, TREEIFY_LEN, MAX_LEN};
 
 mod retain;
@@ -234,16 +234,33 @@ impl<K: Ord + Drop, V: Drop, A: Allocator + Copy> Table<K, V, A> {
         Ok(())
     }
 
-    // Doubles the number of bins, and moves each entry to its bin.
-    pub(crate) fn double(&mut self) -> Result<(), AllocError>
+    // Enlarges the table to `bins` bins, and moves each entry to its bin. No table between is made.
+    pub(crate) fn enlarge(&mut self, bins: usize) -> Result<(), AllocError>
         requires some { 0 < length self.old }
-        requires less { length self.old < 2 ^ MAX_TABLE }
-        ensures ok { OnOk result (self.new ≡ bins_doubled self.old) }
+        requires times { IsTimesPower (length self.old) bins }
+        requires most { bins ≤ 2 ^ MAX_TABLE }
+        ensures ok { OnOk result (IsEnlarged bins self.old self.new) }
         ensures err { OnErr result (self.new ≡ self.old) }
     {
-        self.bins.reserve_exact(self.bins.len())?;
-        halve(&mut self.bins);
+        self.bins.reserve_exact(bins - self.bins.len())?;
+        halve_until(&mut self.bins, bins);
         Ok(())
+    }
+}
+
+// Halves all bins until there are `count`.
+fn halve_until<K: Ord + Drop, V: Drop, A: Allocator>(bins: &mut Vec<Bin<K, V, A>, A>, count: usize)
+    requires size { IsTableSize (length bins.old.items) }
+    requires some { 0 < length bins.old.items }
+    requires times { IsTimesPower (length bins.old.items) count }
+    requires most { count ≤ 2 ^ MAX_TABLE }
+    requires room { count ≤ vec_capacity bins.old }
+    ensures bins { IsEnlarged count (maps_of_bins bins.old.items) (maps_of_bins bins.new.items) }
+    ensures size { IsTableSize (length bins.new.items) }
+    ensures numbers { BinsBearZero bins.old.items → BinsBearZero bins.new.items }
+{
+    while bins.len() < count {
+        halve(bins);
     }
 }
 
@@ -254,6 +271,7 @@ fn halve<K: Ord + Drop, V: Drop, A: Allocator>(bins: &mut Vec<Bin<K, V, A>, A>)
     requires room { 2 * length bins.old.items ≤ vec_capacity bins.old }
     ensures bins { maps_of_bins bins.new.items ≡ bins_doubled (maps_of_bins bins.old.items) }
     ensures numbers { BinsBearZero bins.old.items → BinsBearZero bins.new.items }
+    ensures room { vec_capacity bins.new ≡ vec_capacity bins.old }
 {
     let count = bins.len();
     let bit = count.ilog2() as u8;

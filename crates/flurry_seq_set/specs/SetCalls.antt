@@ -6,7 +6,7 @@ use Rattle.std.specs.Borrow.{Bor}
 use Rattle.std.specs.List.Sorted.{IsPermutation}
 use Rattle.flurry_base.specs.FiniteSet.{element_at, with_element, with_elements, without_element, IsSubset, AreDisjoint}
 use Rattle.flurry_base.specs.Sizes.{IsGrown}
-use Rattle.flurry_seq.specs.Contents.{first_bins, IsLeftByReserve}
+use Rattle.flurry_seq.specs.Contents.{first_bins}
 use Rattle.flurry_seq_set.specs.SetRetain.{RetainsElements}
 use Rattle.flurry_seq_set.specs.SetContents.{SetContents, SameElements, set_with, asked_for, sets_eq}
 use Rattle.flurry_seq_set.specs.declared.set_calls.SetCall.{SetCall}
@@ -51,9 +51,7 @@ module _ {T S A : Type 0} where
     SetCallAnswers (Extend list) s r n = (r ≡ Done) × (n.elements ≡ with_elements cmp s.elements list.items) × (n.hasher ≡ s.hasher)
 
   module _ {P : Type 0} (cmp : T → T → Ordering) where
-    -- what a call that was refused leaves: the set, but that a `reserve` may have made its table larger, on the way that it went, and
-    -- an `extend` has put a front of its list
+    -- what a call that was refused leaves: the set, but that an `extend` has put a front of its list
     abbrev pub SetCallRefused : SetCall T S P A → SetContents T S → SetContents T S → Type 0
     SetCallRefused (Extend list) s n = (front rest : List T) × (list.items ≡ front ++ rest) × (n.elements ≡ with_elements cmp s.elements front) × (n.hasher ≡ s.hasher)
-    SetCallRefused (Reserve a) s n = SameElements s n × IsLeftByReserve s.bins (asked_for s a) n.bins
     SetCallRefused call s n = n ≡ s

@@ -7,7 +7,7 @@ ghost use Rattle.flurry_base.specs.FiniteMap.{IsFiniteMap};
 ghost use Rattle.flurry_base.specs.FiniteSet.{IsFiniteSet, element_at, with_element, with_elements, without_element, IsSubset, AreDisjoint};
 ghost use Rattle.flurry_base.specs.Hashing.{seed_of};
 ghost use Rattle.flurry_base.specs.Sizes.{wanted_of, IsGrown};
-ghost use Rattle.flurry_seq.specs.Contents.{first_bins, IsLeftByReserve};
+ghost use Rattle.flurry_seq.specs.Contents.{first_bins};
 ghost use Rattle.flurry_seq.specs.Growth.{bins_for, IsTableFrom, IsTableAfter, HasRoom};
 ghost use Rattle.flurry_seq_set.specs.SetContents.{keys_in, set_contents, set_with, SameElements, asked_for, sets_eq, sets_eq_per, sets_eq_equiv};
 ghost use Rattle.flurry_seq_set.specs.SetRetain.{RetainsElements};
@@ -524,17 +524,17 @@ impl<T: Ord + Drop, S: KeyHasher<T>, A: Allocator + Copy> SeqSet<T, S, A> {
 
     /// Grows the table so that `additional` more elements fit, as [`SeqMap::reserve`] does for pairs.
     ///
-    /// Each doubling moves every element.
+    /// Linear in the number of bins afterwards, and each element is moved.
     ///
     /// # Errors
     ///
-    /// Returns [`AllocError`] if memory for a table cannot be allocated. The elements stay, and so do the doublings that were done.
+    /// Returns [`AllocError`] if memory for the larger table cannot be allocated. The set is then as it was.
     pub fn reserve(&mut self, additional: usize) -> Result<(), AllocError>
         ensures same { SameElements self.old self.new }
         ensures ascend { IsFiniteSet T.cmp self.old.elements }
         ensures ok { let w = asked_for self.old additional in
             OnOk result (IsGrown (first_bins self.old.bins w) w self.new.bins) }
-        ensures err { OnErr result (IsLeftByReserve self.old.bins (asked_for self.old additional) self.new.bins) }
+        ensures err { OnErr result (self.new ≡ self.old) }
     {
         self.map.reserve(additional)
     }

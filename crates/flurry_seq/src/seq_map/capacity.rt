@@ -4,7 +4,8 @@ ghost use Rattle.flurry_base.specs.FiniteMap.{IsFiniteMap};
 ghost use Rattle.flurry_base.specs.Sizes.{wanted_of, threshold_of, IsOnTheWay, IsGrown};
 ghost use Rattle.flurry_seq.specs.Growth.{IsTableAfter};
 ghost use Rattle.flurry_seq.specs.Invariant.{IsTableSize};
-ghost use Rattle.flurry_seq.specs.Contents.{contents, SamePairs, asked_for, first_bins, IsLeftByReserve};
+ghost use Rattle.flurry_seq.specs.Contents.{contents, SamePairs, asked_for, first_bins};
+ghost use Rattle.flurry_seq.specs.Table.{IsTimesPower};
 ghost use Rattle.flurry_base.specs.declared.sizes.TheConstants.{MAX_TABLE, MIN_TREEIFY_BINS, TREEIFY_LEN};
 
 use super::SeqMap;
@@ -52,24 +53,28 @@ impl<K: Ord + Drop, V: Drop, S: KeyHasher<K>, A: Allocator + Copy> SeqMap<K, V, 
     }
 
     /// Grows the table so that `additional` more pairs fit. The number of bins asked for is [`wanted`] of the length plus `additional`, a
-    /// sum that saturates at `usize::MAX`. If there is no table, one with that number of bins is made first. The table is then doubled
-    /// until its [`threshold`] is at least that number, or it has [`MAX_BINS`] bins.
+    /// sum that saturates at `usize::MAX`. The table then has the least number of bins whose [`threshold`] is at least that number, but at
+    /// most [`MAX_BINS`], of those that its own number of bins, or without a table the number asked for, gives by doubling. It is made in
+    /// one step.
     ///
-    /// Each doubling moves every pair.
+    /// Linear in the number of bins afterwards, and each pair is moved.
     ///
     /// # Errors
     ///
-    /// Returns [`AllocError`] if memory for a table cannot be allocated. The pairs stay, and so do the doublings that were done.
+    /// Returns [`AllocError`] if memory for the larger table cannot be allocated. The map is then as it was.
     pub fn reserve(&mut self, additional: usize) -> Result<(), AllocError>
         ensures same { SamePairs self.old self.new }
         ensures ascend { IsFiniteMap K.cmp self.old.pairs }
         ensures ok { let w = asked_for self.old additional in
             OnOk result (IsGrown (first_bins self.old.bins w) w self.new.bins) }
-        ensures err { OnErr result (IsLeftByReserve self.old.bins (asked_for self.old additional) self.new.bins) }
+        ensures err { OnErr result (self.new ≡ self.old) }
     {
         let least = wanted(self.len().saturating_add(additional));
-        self.ensure_table(least)?;
-        self.grow_to(least)
+        if self.capacity() == 0 {
+            self.begin(grown(least, least))
+        } else {
+            self.grow_to(least)
+        }
     }
 
     // Makes a table of `bins` bins, if there is none.
@@ -108,17 +113,15 @@ impl<K: Ord + Drop, V: Drop, S: KeyHasher<K>, A: Allocator + Copy> SeqMap<K, V, 
         self.grow_while_full();
     }
 
-    // Doubles the table while its threshold is below `least`, and it has fewer than `MAX_BINS` bins.
+    // Enlarges the table until its threshold is at least `least`, or it has `MAX_BINS` bins.
     fn grow_to(&mut self, least: usize) -> Result<(), AllocError>
         requires { 0 < self.old.bins }
         ensures same { SamePairs self.old self.new }
         ensures way { IsOnTheWay self.old.bins least self.new.bins }
-        ensures ok { OnOk result ((least ≤ threshold_of self.new.bins) ⊎ (2 ^ MAX_TABLE ≤ self.new.bins)) }
+        ensures ok { OnOk result (IsGrown self.old.bins least self.new.bins) }
+        ensures err { OnErr result (self.new ≡ self.old) }
     {
-        while threshold(self.capacity()) < least && self.capacity() < MAX_BINS {
-            self.double()?;
-        }
-        Ok(())
+        self.enlarge(grown(self.capacity(), least))
     }
 
     // Doubles the table while it has as many pairs as its threshold. If memory cannot be allocated, it stays as it is.
@@ -128,20 +131,35 @@ impl<K: Ord + Drop, V: Drop, S: KeyHasher<K>, A: Allocator + Copy> SeqMap<K, V, 
         ensures way { IsOnTheWay self.old.bins (length self.old.pairs + 1) self.new.bins }
     {
         while self.len() >= threshold(self.capacity()) && self.capacity() < MAX_BINS {
-            if self.double().is_err() {
+            if self.enlarge(2 * self.capacity()).is_err() {
                 return;
             }
         }
     }
 
-    // Moves the pairs to a table of twice as many bins.
-    fn double(&mut self) -> Result<(), AllocError>
+    // Moves the pairs to a table of `bins` bins.
+    fn enlarge(&mut self, bins: usize) -> Result<(), AllocError>
         requires table { 0 < self.old.bins }
-        requires less { self.old.bins < 2 ^ MAX_TABLE }
-        ensures ok { OnOk result (self.new ≡ contents self.old.pairs (2 * self.old.bins) self.old.hasher) }
+        requires times { IsTimesPower self.old.bins bins }
+        requires most { bins ≤ 2 ^ MAX_TABLE }
+        ensures ok { OnOk result (self.new ≡ contents self.old.pairs bins self.old.hasher) }
         ensures err { OnErr result (self.new ≡ self.old) }
     {
-        self.table.double()?;
+        self.table.enlarge(bins)?;
         Ok(())
     }
+}
+
+// Returns the bins that `bins` bins become where they are doubled until their threshold is at least `least`, or they are `MAX_BINS`.
+fn grown(bins: usize, least: usize) -> usize
+    requires size { IsTableSize bins }
+    requires some { 0 < bins }
+    ensures grown { IsGrown bins least result }
+    ensures size { IsTableSize result }
+{
+    let mut grown = bins;
+    while threshold(grown) < least && grown < MAX_BINS {
+        grown *= 2;
+    }
+    grown
 }

@@ -27,6 +27,7 @@ loop-at-preserved g c =
           (rw (c.split-low.ensures.high, c.replace.ensures.value) (all_filter _ _ (entries_of_bin c.index_mut-bin.result.now) here), tt));
       count = omega (arith, c.push_reserved.ensures.len, c.loop-at.invariant.count);
       room = omega (arith, c.push_reserved.ensures.capacity, c.loop-at.invariant.room);
+      capacity = c.push_reserved.ensures.capacity ∙ c.loop-at.invariant.capacity;
     }
 
 pub returns-clause-bins : goal.returns-clause-bins
@@ -34,3 +35,6 @@ returns-clause-bins g c =
     let len : c.len-count.result ≡ length c.args.bins.now.items = omega (arith, c.len-count.ensures, c.args.bins.now.ok.0) in
     let all : c.loop-at.at ≡ length (maps_of_bins c.args.bins.now.items) = rw length-map (omega (arith, len)) in
     c.loop-at.invariant.halves ∙ rw (all, ← length-map c.args.bins.now.items plain_bin) (halved_all (maps_of_bins c.args.bins.now.items))
+
+pub returns-clause-room : goal.returns-clause-room
+returns-clause-room g c = c.loop-at.invariant.capacity

@@ -11,4 +11,5 @@ invariant-loop-at g l = record {
   numbers : BinsBearZero l.initial.bins.items → BinsBearZero l.bins.items;
   count : vec_len l.bins ≡ length l.initial.bins.items + l.at;
   room : 2 * length l.initial.bins.items ≤ vec_capacity l.bins;
+  capacity : vec_capacity l.bins ≡ vec_capacity l.initial.bins;
 }

@@ -170,7 +170,7 @@ fn set_with_capacity(rt: HostRuntime) {
     assert_same(rt, memory.live_blocks(), 0);
 }
 
-// A call of `reserve` for 32 more elements in a set of one. It requests tables of 32, 64 and 128 bins.
+// A call of `reserve` for 32 more elements in a set of one. It requests one table, of 128 bins.
 struct Reserves;
 
 impl Refused for Reserves {
@@ -186,7 +186,7 @@ impl Refused for Reserves {
         let failed = set.reserve(32).is_err();
         let refused = metered.was_refused();
         metered.refuse_nothing();
-        assert_same_at(rt, k, (failed, refused), (k < 3, k < 3));
+        assert_same_at(rt, k, (failed, refused), (k == 0, k == 0));
         assert_same_at(rt, k, (set.len(), set.contains(&0)), (1, true));
         refused
     }

@@ -64,69 +64,30 @@ fn reserve_is_refused<A: Allocator + Copy>(
     refused && failed
 }
 
-// Checks the number of bins, and the shape of the bin of the hash 0.
-fn has_shape<A: Allocator + Copy>(
-    rt: &impl Abort,
-    map: &NumberMap<ZeroHashBuilder, A>,
-    k: u64,
-    bins: usize,
-    shape: Shape,
-) {
-    assert_same_at(rt, k, (map.capacity(), map.shape_of(0)), (bins, shape));
-}
-
-// Asserts that a map of 16 bins and one pair has `bins` bins after a `reserve` whose request numbered `k` failed, and 128 bins after a
-// second `reserve`.
-fn keeps_the_doublings<A: Allocator + Copy>(
+// Asserts that a map of `bins` bins and the pairs of the keys below `pairs` is as it was, and has the memory that it had, after a `reserve`
+// whose only request failed, and has 128 bins after a second one.
+fn stays_where_refused<A: Allocator + Copy>(
     rt: &impl Abort,
     metered: &MeteredAlloc<Global>,
     memory: A,
-    k: u64,
     bins: usize,
+    pairs: u64,
 ) {
-    let mut map = map_of(rt, memory, 1);
-    let before = metered.live_blocks();
-    assert_same_at(rt, k, reserve_is_refused(metered, &mut map, k), true);
-    assert_same_at(
-        rt,
-        k,
-        (size_of(&map), number_at(&map, 0)),
-        ((bins, 1), Some(0)),
-    );
-    assert_same_at(rt, k, metered.live_blocks(), before);
-    map.reserve(32).expect(rt, "memory for the tables");
-    assert_same_at(rt, k, map.capacity(), 128);
+    let mut map = map_of(rt, memory, pairs);
+    let before = (metered.live_blocks(), metered.live_bytes());
+    assert_same(rt, reserve_is_refused(metered, &mut map, 0), true);
+    assert_same(rt, size_of(&map), (bins, pairs as usize));
+    assert_same(rt, (metered.live_blocks(), metered.live_bytes()), before);
+    assert_same(rt, reserve_is_refused(metered, &mut map, 1), false);
+    assert_same(rt, map.capacity(), 128);
 }
 
 #[test]
-fn reserve_keeps_the_doublings_done(rt: HostRuntime) {
+fn refused_reserve_leaves_the_map(rt: HostRuntime) {
     let rt = &rt;
     let memory = metered(rt, rt.alloc());
-    for (k, bins) in [(0, 16), (1, 32), (2, 64)] {
-        keeps_the_doublings(rt, memory, memory, k, bins);
-    }
-    assert_same(rt, memory.live_blocks(), 0);
-}
-
-// Asserts that a new map has `bins` bins after a `reserve` whose request numbered `k` failed.
-fn keeps_the_first_table<A: Allocator + Copy>(
-    rt: &impl Abort,
-    metered: &MeteredAlloc<Global>,
-    memory: A,
-    k: u64,
-    bins: usize,
-) {
-    let mut map = map_of(rt, memory, 0);
-    assert_same_at(rt, k, reserve_is_refused(metered, &mut map, k), true);
-    assert_same_at(rt, k, size_of(&map), (bins, 0));
-}
-
-#[test]
-fn reserve_of_a_new_map(rt: HostRuntime) {
-    let rt = &rt;
-    let memory = metered(rt, rt.alloc());
-    for (k, bins) in [(0, 0), (1, 64)] {
-        keeps_the_first_table(rt, memory, memory, k, bins);
+    for (bins, pairs) in [(0, 0), (16, 1)] {
+        stays_where_refused(rt, memory, memory, bins, pairs);
     }
     assert_same(rt, memory.live_blocks(), 0);
 }
@@ -170,33 +131,29 @@ fn row_15(rt: HostRuntime) {
     fills_a_table(&rt, memory, memory);
 }
 
-// Asserts that after the ninth key of one hash, whose request numbered `k` fails, the map has `bins` bins, and after the tenth key as well.
-fn grows_in_part<A: Allocator + Copy>(
+// Puts ten keys of one hash into a map, and refuses the ninth the larger table that its bin asks for.
+fn keeps_its_table<A: Allocator + Copy>(
     rt: &impl Abort,
     metered: &MeteredAlloc<Global>,
     memory: A,
-    k: u64,
-    bins: usize,
 ) {
     let mut map: NumberMap<ZeroHashBuilder, A> = SeqMap::with_hasher(memory, ZeroHashBuilder);
     for key in 0..8u64 {
         adds(rt, &mut map, key, key);
     }
-    adds_without_a_table(rt, metered, &mut map, (8, 8), k);
-    has_shape(rt, &map, k, bins, Shape::List(9));
-    assert_same_at(rt, k, number_at(&map, 8), Some(8));
+    adds_without_a_table(rt, metered, &mut map, (8, 8), 3);
+    assert_same(rt, (map.capacity(), map.shape_of(0)), (16, Shape::List(9)));
+    assert_same(rt, number_at(&map, 8), Some(8));
     adds(rt, &mut map, 9, 9);
-    has_shape(rt, &map, k, bins, Shape::Tree(10));
+    assert_same(rt, (map.capacity(), map.shape_of(0)), (16, Shape::Tree(10)));
 }
 
-// The ninth key of one hash asks for 128 bins, by doublings from 16 bins. The tenth key makes the list a tree in a table of any size.
+// The ninth key of one hash asks for 128 bins, by one request. The tenth key makes the list a tree in a table of any size.
 #[test]
 fn refused_growth_keeps_insert(rt: HostRuntime) {
     let rt = &rt;
     let memory = metered(rt, rt.alloc());
-    for (k, bins) in [(3, 16), (4, 32), (5, 64)] {
-        grows_in_part(rt, memory, memory, k, bins);
-    }
+    keeps_its_table(rt, memory, memory);
     assert_same(rt, memory.live_blocks(), 0);
 }
 
@@ -211,7 +168,7 @@ fn fills_a_bin<A: Allocator + Copy>(rt: &impl Abort, metered: &MeteredAlloc<Glob
     assert_same(rt, size_of(&map), (32, 12));
 }
 
-// Of eleven pairs in 16 bins, eight are in one bin. The ninth of that bin asks for 128 bins, and the first doubling fails. Then the count,
+// Of eleven pairs in 16 bins, eight are in one bin. The ninth of that bin asks for 128 bins, and is refused them. Then the count,
 // which is the threshold, asks for 32 bins.
 #[test]
 fn count_grows_after_a_refused_growth(rt: HostRuntime) {

@@ -1,22 +1,13 @@
-use Rattle.std.proofs.Common.{inl, inr, arith, refl}
-use Rattle.flurry_base.proofs.SizeLaws.{way_start, way_more}
+use Rattle.std.proofs.Common.{subst, rules}
+use Rattle.flurry_base.specs.Sizes.{IsGrown}
+use Rattle.flurry_seq.proofs.GrowthLemmas.{size_most}
+use Rattle.flurry_seq.proofs.RoomLaws.{way_left}
 use Rattle.flurry_seq.proofs.seq_map.SeqMap.grow_to.Goals as goal
 
-pub loop-self-init : goal.loop-self-init
-loop-self-init g c = record { same = (refl, refl); some = c.requires; way = way_start c.args.self.now.bins c.args.least }
+pub enlarge-requires-clause-most : goal.enlarge-requires-clause-most
+enlarge-requires-clause-most g c = size_most c.grown.result c.grown.ensures.size
 
-pub loop-self-preserved : goal.loop-self-preserved
-loop-self-preserved g c =
-    let full = rw (c.threshold.ensures, c.capacity.ensures.bins) at c.loop-self-test.true in
-    let less = rw c.capacity-in-loop-self.ensures.bins at c.if-capacity-lt-MAX_BINS.true in
-    rw c.in_ok-double.ensures.ok (record {
-      same = c.loop-self.invariant.same;
-      some = omega (arith, c.loop-self.invariant.some);
-      way = way_more c.args.self.now.bins c.args.least c.loop-self.self.bins (full, less) c.loop-self.invariant.way;
-    })
-
-pub returns-else-capacity-lt-MAX_BINS-clause-ok : goal.returns-else-capacity-lt-MAX_BINS-clause-ok
-returns-else-capacity-lt-MAX_BINS-clause-ok g c = inr (rw c.capacity-in-loop-self.ensures.bins at c.if-capacity-lt-MAX_BINS.false)
-
-pub returns-after-loop-self-clause-ok : goal.returns-after-loop-self-clause-ok
-returns-after-loop-self-clause-ok g c = inl (rw (c.threshold.ensures, c.capacity.ensures.bins) at c.loop-self-test.false)
+pub returns-clause-way : goal.returns-clause-way
+returns-clause-way g c =
+    let grown : IsGrown c.args.self.now.bins c.args.least c.grown.result = subst (λ n. IsGrown n c.args.least c.grown.result) c.capacity.ensures.bins c.grown.ensures.grown in
+    way_left c.enlarge.result c.args.least c.grown.result c.args.self.now c.enlarge.new.self grown.0 c.enlarge.ensures.ok c.enlarge.ensures.err
