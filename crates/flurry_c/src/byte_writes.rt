@@ -1,13 +1,15 @@
 //! Maps of bytes: calls that change them.
-ghost use Rattle.std.specs.Prelude.{◌≡◌, ◌⊎◌, []};
+ghost use Rattle.std.specs.Prelude.{◌≡◌, ◌⊎◌, [], length};
 ghost use Rattle.flurry_base.specs.FiniteMap.{with_pair, without};
 ghost use Rattle.flurry_base.specs.Sizes.{IsGrown};
-ghost use Rattle.flurry_seq.specs.Contents.{asked_for, first_bins, IsLeftByReserve};
+ghost use Rattle.flurry_base.specs.declared.sizes.TheConstants.{FIRST_BINS};
+ghost use Rattle.flurry_seq.specs.Growth.{IsTableAfter};
+ghost use Rattle.flurry_seq.specs.Contents.{asked_for, first_bins};
 ghost use Rattle.flurry_c_base.specs.ByteMaps.{KeepsOrAdds};
 ghost use Rattle.flurry_c_base.specs.ByteStrings.{byte_order};
 ghost use Rattle.flurry_c.specs.ByteAnswers.{pairs_of, value_of};
 ghost use Rattle.flurry_c.specs.Presence.{Finds};
-ghost use Rattle.flurry_c.specs.declared.statuses.TheConstants.{DONE, NO_MEMORY};
+ghost use Rattle.flurry_c.specs.declared.statuses.TheConstants.{ABSENT, DONE, NO_MEMORY, PRESENT};
 
 use crate::statuses::{ABSENT, DONE, NO_MEMORY, PRESENT};
 use flurry_c_base::bytes::Bytes;
@@ -27,6 +29,9 @@ pub extern "C" fn flurry_bytes_insert(
     ensures { ((result ≡ NO_MEMORY) × (bytes.new.map ≡ bytes.old.map))
         ⊎ (Finds (value_of bytes.old key.now) result
         × (pairs_of bytes.new ≡ with_pair byte_order (pairs_of bytes.old) key.now value.now)) }
+    ensures bins { result ≡ PRESENT → bytes.new.map.map.bins ≡ bytes.old.map.map.bins }
+    ensures grown { result ≡ ABSENT → IsTableAfter (first_bins bytes.old.map.map.bins FIRST_BINS)
+        (length bytes.new.map.map.pairs) bytes.new.map.map.bins }
 {
     match bytes.lend().insert(alloc, key, value) {
         Ok(true) => PRESENT,
@@ -48,6 +53,9 @@ pub extern "C" fn flurry_bytes_try_insert(
     ensures { ((result ≡ NO_MEMORY) × (bytes.new.map ≡ bytes.old.map))
         ⊎ (Finds (value_of bytes.old key.now) result
         × KeepsOrAdds (pairs_of bytes.old) key.now value.now (pairs_of bytes.new)) }
+    ensures bins { result ≡ PRESENT → bytes.new.map.map.bins ≡ bytes.old.map.map.bins }
+    ensures grown { result ≡ ABSENT → IsTableAfter (first_bins bytes.old.map.map.bins FIRST_BINS)
+        (length bytes.new.map.map.pairs) bytes.new.map.map.bins }
 {
     match bytes.lend().try_insert(alloc, key, value) {
         Ok(true) => PRESENT,
@@ -61,6 +69,7 @@ pub extern "C" fn flurry_bytes_try_insert(
 pub extern "C" fn flurry_bytes_remove(bytes: &mut Bytes, key: &[u8]) -> u8
     ensures found { Finds (value_of bytes.old key.now) result }
     ensures pairs { pairs_of bytes.new ≡ without byte_order (pairs_of bytes.old) key.now }
+    ensures bins { bytes.new.map.map.bins ≡ bytes.old.map.map.bins }
 {
     if bytes.lend().remove(key) {
         PRESENT
@@ -80,12 +89,12 @@ pub extern "C" fn flurry_bytes_clear(bytes: &mut Bytes)
 
 /// Makes room in the table for `additional` more pairs, and returns [`DONE`]. The pairs stay.
 ///
-/// Returns [`NO_MEMORY`] if memory cannot be allocated. The table is then as it was, or was doubled some times on the way.
+/// Returns [`NO_MEMORY`] if memory for the larger table cannot be allocated. The map is unchanged then.
 #[unsafe(no_mangle)]
 pub extern "C" fn flurry_bytes_reserve(bytes: &mut Bytes, additional: usize) -> u8
     ensures pairs { pairs_of bytes.new ≡ pairs_of bytes.old }
     ensures room { let old = bytes.old.map.map in let bins = asked_for old additional in
-        ((result ≡ NO_MEMORY) × IsLeftByReserve old.bins bins bytes.new.map.map.bins)
+        ((result ≡ NO_MEMORY) × (bytes.new.map ≡ bytes.old.map))
         ⊎ ((result ≡ DONE) × IsGrown (first_bins old.bins bins) bins bytes.new.map.map.bins) }
 {
     match bytes.lend().map.reserve(additional) {

@@ -1,14 +1,16 @@
 //! Sets of numbers: calls that change them.
 ghost use Rattle.std.specs.Ordering.{nat_cmp};
-ghost use Rattle.std.specs.Prelude.{◌≡◌, ◌⊎◌, []};
+ghost use Rattle.std.specs.Prelude.{◌≡◌, ◌⊎◌, [], length};
 ghost use Rattle.flurry_base.specs.FiniteSet.{without_element};
 ghost use Rattle.flurry_base.specs.Sizes.{IsGrown};
-ghost use Rattle.flurry_seq.specs.Contents.{first_bins, IsLeftByReserve};
+ghost use Rattle.flurry_base.specs.declared.sizes.TheConstants.{FIRST_BINS};
+ghost use Rattle.flurry_seq.specs.Growth.{IsTableAfter};
+ghost use Rattle.flurry_seq.specs.Contents.{first_bins};
 ghost use Rattle.flurry_seq_set.specs.SetContents.{asked_for};
 ghost use Rattle.flurry_c_base.specs.SetInsertions.{AddsOrKeeps};
 ghost use Rattle.flurry_c.specs.Presence.{Finds};
 ghost use Rattle.flurry_c.specs.WordSetAnswers.{elements_of, found_in};
-ghost use Rattle.flurry_c.specs.declared.statuses.TheConstants.{DONE, NO_MEMORY};
+ghost use Rattle.flurry_c.specs.declared.statuses.TheConstants.{ABSENT, DONE, NO_MEMORY, PRESENT};
 
 use crate::statuses::{ABSENT, DONE, NO_MEMORY, PRESENT};
 use flurry_c_base::held_word_set::HeldWordSet;
@@ -22,6 +24,9 @@ pub extern "C" fn flurry_word_set_insert(set: &mut HeldWordSet, element: u64) ->
     ensures { ((result ≡ NO_MEMORY) × (set.new.set ≡ set.old.set))
         ⊎ (Finds (found_in set.old element) result
         × AddsOrKeeps nat_cmp (elements_of set.old) element (elements_of set.new)) }
+    ensures bins { result ≡ PRESENT → set.new.set.set.bins ≡ set.old.set.set.bins }
+    ensures grown { result ≡ ABSENT → IsTableAfter (first_bins set.old.set.set.bins FIRST_BINS)
+        (length set.new.set.set.elements) set.new.set.set.bins }
 {
     match set.lend().insert(element) {
         Ok(true) => ABSENT,
@@ -35,6 +40,7 @@ pub extern "C" fn flurry_word_set_insert(set: &mut HeldWordSet, element: u64) ->
 pub extern "C" fn flurry_word_set_remove(set: &mut HeldWordSet, element: u64) -> u8
     ensures found { Finds (found_in set.old element) result }
     ensures elements { elements_of set.new ≡ without_element nat_cmp (elements_of set.old) element }
+    ensures bins { set.new.set.set.bins ≡ set.old.set.set.bins }
 {
     if set.lend().set.remove(&element) {
         PRESENT
@@ -54,12 +60,12 @@ pub extern "C" fn flurry_word_set_clear(set: &mut HeldWordSet)
 
 /// Makes room in the table for `additional` more elements, and returns [`DONE`]. The elements stay.
 ///
-/// Returns [`NO_MEMORY`] if memory cannot be allocated. The table is then as it was, or was doubled some times on the way.
+/// Returns [`NO_MEMORY`] if memory for the larger table cannot be allocated. The set is unchanged then.
 #[unsafe(no_mangle)]
 pub extern "C" fn flurry_word_set_reserve(set: &mut HeldWordSet, additional: usize) -> u8
     ensures elements { elements_of set.new ≡ elements_of set.old }
     ensures room { let old = set.old.set.set in let bins = asked_for old additional in
-        ((result ≡ NO_MEMORY) × IsLeftByReserve old.bins bins set.new.set.set.bins)
+        ((result ≡ NO_MEMORY) × (set.new.set ≡ set.old.set))
         ⊎ ((result ≡ DONE) × IsGrown (first_bins old.bins bins) bins set.new.set.set.bins) }
 {
     match set.lend().set.reserve(additional) {

@@ -1,6 +1,9 @@
 //! The set of numbers.
 ghost use Rattle.std.specs.Ordering.{nat_cmp};
-ghost use Rattle.std.specs.Prelude.{◌≡◌, ◌++◌, ◌≤◌, [], IfOk, OnErr, OnOk, drop, is_none, length};
+ghost use Rattle.std.specs.Prelude.{◌≡◌, ◌++◌, ◌≤◌, [], IfOk, IsTrue, OnErr, OnOk, drop, is_none, length, not};
+ghost use Rattle.flurry_base.specs.declared.sizes.TheConstants.{FIRST_BINS};
+ghost use Rattle.flurry_seq.specs.Contents.{first_bins};
+ghost use Rattle.flurry_seq.specs.Growth.{IsTableAfter};
 ghost use Rattle.flurry_base.specs.FiniteSet.{element_at};
 ghost use Rattle.flurry_c_base.specs.SetInsertions.{AddsOrKeeps};
 ghost use Rattle.flurry_c_base.specs.WordSetWalks.{ListsElements};
@@ -36,6 +39,9 @@ impl WordSet {
         ensures new { IfOk result (λ new. new ≡ is_none (element_at nat_cmp self.old.set.elements element)) }
         ensures elements { OnOk result
             (AddsOrKeeps nat_cmp self.old.set.elements element self.new.set.elements) }
+        ensures bins { IfOk result (λ new. IsTrue (not new) → self.new.set.bins ≡ self.old.set.bins) }
+        ensures grown { IfOk result (λ new. IsTrue new
+            → IsTableAfter (first_bins self.old.set.bins FIRST_BINS) (length self.new.set.elements) self.new.set.bins) }
         ensures err { OnErr result (self.new ≡ self.old) }
     {
         self.set.insert(element)

@@ -1,7 +1,10 @@
 //! The calls of one key. An insertion copies the key and the value.
-ghost use Rattle.std.specs.Prelude.{◌≡◌, IfOk, OnErr, is_some};
+ghost use Rattle.std.specs.Prelude.{◌≡◌, IfOk, IsTrue, OnErr, is_some, length, not};
 ghost use Rattle.std.specs.Option.{option_map};
 ghost use Rattle.flurry_base.specs.FiniteMap.{value_at, with_pair, without};
+ghost use Rattle.flurry_base.specs.declared.sizes.TheConstants.{FIRST_BINS};
+ghost use Rattle.flurry_seq.specs.Contents.{first_bins};
+ghost use Rattle.flurry_seq.specs.Growth.{IsTableAfter};
 ghost use Rattle.flurry_c_base.specs.ByteMaps.{bytes_in, KeepsOrAdds};
 ghost use Rattle.flurry_c_base.specs.ByteStrings.{byte_order};
 
@@ -32,6 +35,9 @@ impl ByteMap {
         ensures found { IfOk result (λ found. found ≡ is_some (value_at byte_order (bytes_in self.old) key.now)) }
         ensures pairs { IfOk result
             (λ _. bytes_in self.new ≡ with_pair byte_order (bytes_in self.old) key.now value.now) }
+        ensures bins { IfOk result (λ found. IsTrue found → self.new.map.bins ≡ self.old.map.bins) }
+        ensures grown { IfOk result (λ found. IsTrue (not found)
+            → IsTableAfter (first_bins self.old.map.bins FIRST_BINS) (length self.new.map.pairs) self.new.map.bins) }
         ensures err { OnErr result (self.new ≡ self.old) }
     {
         let key = key.to_vec(alloc)?;
@@ -53,6 +59,9 @@ impl ByteMap {
     ) -> Result<bool, AllocError>
         ensures found { IfOk result (λ found. found ≡ is_some (value_at byte_order (bytes_in self.old) key.now)) }
         ensures pairs { IfOk result (λ _. KeepsOrAdds (bytes_in self.old) key.now value.now (bytes_in self.new)) }
+        ensures bins { IfOk result (λ found. IsTrue found → self.new.map.bins ≡ self.old.map.bins) }
+        ensures grown { IfOk result (λ found. IsTrue (not found)
+            → IsTableAfter (first_bins self.old.map.bins FIRST_BINS) (length self.new.map.pairs) self.new.map.bins) }
         ensures err { OnErr result (self.new ≡ self.old) }
     {
         let key = key.to_vec(alloc)?;
@@ -65,6 +74,7 @@ impl ByteMap {
     pub fn remove(&mut self, key: &[u8]) -> bool
         ensures found { result ≡ is_some (value_at byte_order (bytes_in self.old) key.now) }
         ensures pairs { bytes_in self.new ≡ without byte_order (bytes_in self.old) key.now }
+        ensures bins { self.new.map.bins ≡ self.old.map.bins }
     {
         self.map.remove(ByteQuery(key)).is_some()
     }

@@ -1,5 +1,8 @@
 //! The calls of one element. An insertion copies it.
-ghost use Rattle.std.specs.Prelude.{◌≡◌, IfOk, OnErr, OnOk, is_none, is_some};
+ghost use Rattle.std.specs.Prelude.{◌≡◌, IfOk, IsTrue, OnErr, OnOk, is_none, is_some, length, not};
+ghost use Rattle.flurry_base.specs.declared.sizes.TheConstants.{FIRST_BINS};
+ghost use Rattle.flurry_seq.specs.Contents.{first_bins};
+ghost use Rattle.flurry_seq.specs.Growth.{IsTableAfter};
 ghost use Rattle.flurry_base.specs.FiniteSet.{element_at, without_element};
 ghost use Rattle.flurry_c_base.specs.ByteStrings.{byte_order};
 ghost use Rattle.flurry_c_base.specs.ByteSets.{elements_in};
@@ -29,6 +32,9 @@ impl ByteSet {
             (λ new. new ≡ is_none (element_at byte_order (elements_in self.old) element.now)) }
         ensures elements { OnOk result
             (AddsOrKeeps byte_order (elements_in self.old) element.now (elements_in self.new)) }
+        ensures bins { IfOk result (λ new. IsTrue (not new) → self.new.set.bins ≡ self.old.set.bins) }
+        ensures grown { IfOk result (λ new. IsTrue new
+            → IsTableAfter (first_bins self.old.set.bins FIRST_BINS) (length self.new.set.elements) self.new.set.bins) }
         ensures err { OnErr result (self.new ≡ self.old) }
     {
         let element = element.to_vec(alloc)?;
@@ -40,6 +46,7 @@ impl ByteSet {
     pub fn remove(&mut self, element: &[u8]) -> bool
         ensures found { result ≡ is_some (element_at byte_order (elements_in self.old) element.now) }
         ensures elements { elements_in self.new ≡ without_element byte_order (elements_in self.old) element.now }
+        ensures bins { self.new.set.bins ≡ self.old.set.bins }
     {
         self.set.remove(ByteQuery(element))
     }
