@@ -7,7 +7,7 @@ use Rattle.flurry_base.specs.Sizes.{stride_of}
 use Rattle.flurry_steps_claims.specs.declared.seat_notes.SeatNotes.{SeatNotes}
 use Rattle.flurry_steps_claims.specs.declared.range.Attempt.{Attempt}
 use Rattle.flurry_steps_claims.specs.declared.range.Attempt.TheVariants.{Got, Lost, Nothing}
-use Rattle.flurry_steps_claims.specs.Range.{IsNumber, range_at, range_count}
+use Rattle.flurry_steps_claims.specs.Range.{Bounds, IsNumber, range_at, range_count}
 use Rattle.flurry_steps_claims.specs.SeatNotes.{MayReport, new_notes, with_next, after_claim, notes_after_report}
 use Rattle.flurry_steps_claims.specs.BoardRule.{Moment, AllClaimed, AllReported}
 
@@ -38,6 +38,10 @@ IsBoardFor e p board = (board.table ≡ e) × (board.stride ≡ stride_of (2 ^ e
 abbrev pub ranges_of : BoardValue → ℕ
 ranges_of board = range_count board.table board.stride
 
+-- a range of this board: its bounds are those of its number in the cut of this board's table by its stride
+abbrev pub IsRangeOf : BoardValue → Bounds → Type 0
+IsRangeOf board r = r ≡ range_at board.table board.stride r.number
+
 -- a seat of this board, and a new one
 abbrev pub IsSeatOf : BoardValue → Seat (Unit {0}) SeatNotes → Type 0
 IsSeatOf board seat = (seat.table_id ≡ board.id) × (seat.me.1 ≡ [])
@@ -51,7 +55,7 @@ module _ (board : BoardValue) where
   -- number. Or there is nothing, and every range was claimed at some moment
   abbrev pub Claims : SeatNotes → Attempt → SeatNotes → Type 0
   Claims v (Got r) w =
-      IsNumber board.table board.stride r.number × (r ≡ range_at board.table board.stride r.number)
+      IsNumber board.table board.stride r.number × IsRangeOf board r
       × (v.next ≤ r.number) × (w ≡ after_claim v r.number) × MayReport w r.number × Moment (ranges_of board) w
   Claims v Lost w = (w ≡ with_next v w.next) × (v.next < w.next) × (w.next ≤ ranges_of board) × Moment (ranges_of board) w
   Claims v Nothing w = (w ≡ with_next v (ranges_of board)) × (v.next ≤ w.next) × ((now : Moment (ranges_of board) w) × AllClaimed (ranges_of board) now.seats)

@@ -1,5 +1,5 @@
 -- Ranges of bins of a table, numbered from the topmost down.
-use Rattle.std.specs.Prelude.{◌≡◌, ℕ, ◌+◌, ◌-◌, ◌*◌, ◌/◌, ◌^◌, ◌<◌, ◌≤◌, ◌↔◌}
+use Rattle.std.specs.Prelude.{◌≡◌, ℕ, ◌+◌, ◌-◌, ◌*◌, ◌/◌, ◌^◌, ◌<◌, ◌≤◌, ◌==◌, ◌&&◌, ◌↔◌, Bool}
 use Rattle.flurry_base.specs.declared.sizes.TheConstants.{MAX_TABLE}
 
 -- the range of this number: the bins of the table of 2^table bins from `low` to below `high`
@@ -24,6 +24,10 @@ module _ (e s : ℕ) where
   -- range k; it is cut off at bin 0
   abbrev pub range_at : ℕ → Bounds
   range_at k = record { table = e; number = k; low = 2 ^ e - (k + 1) * s; high = 2 ^ e - k * s }
+
+  -- whether these are the bounds of range k
+  abbrev pub is_range_at : ℕ → Bounds → Bool
+  is_range_at k r = r.table == e && r.number == k && r.low == (range_at k).low && r.high == (range_at k).high
 
   abbrev pub range_count : ℕ
   range_count = (2 ^ e + (s - 1)) / s

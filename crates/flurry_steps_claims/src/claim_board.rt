@@ -3,7 +3,8 @@ ghost use Rattle.std.specs.Prelude.{◌≡◌, ◌+◌, ◌++◌, ◌-◌, ◌*�
 ghost use Rattle.flurry_base.specs.declared.sizes.TheConstants.{MAX_TABLE};
 ghost use Rattle.flurry_steps_claims.specs.SeatNotes.{NotesAreApart, MayReport};
 ghost use Rattle.flurry_steps_claims.specs.AtomicSteps.{LoadGives, ExchangeGives, AddGives};
-ghost use Rattle.flurry_steps_claims.specs.ClaimBoard.{IsBoardFor, IsSeatOf, IsNewSeatOf, ranges_of, notes_of, Claims, Reports};
+ghost use Rattle.flurry_steps_claims.specs.Range.{IsNumber, is_range_at};
+ghost use Rattle.flurry_steps_claims.specs.ClaimBoard.{IsBoardFor, IsRangeOf, IsSeatOf, IsNewSeatOf, ranges_of, notes_of, Claims, Reports};
 ghost use Rattle.atomic_table.specs.Table.{step};
 ghost use mathlib.Core.Option.{none};
 
@@ -159,11 +160,13 @@ impl<A: Allocator> ClaimBoard<A> {
 
     /// Reports a range whose bins have moved. Returns whether every range is reported now. Of all reports of a board, one returns `true`.
     ///
-    /// `seat` must be a seat of this board that has claimed the range and has not reported it.
+    /// `range` must be a range of this board: the one of its number in the cut of this board's table. `seat` must be a seat of this board
+    /// that has claimed the range and has not reported it.
     ///
     /// Constant time: one fetch-add.
     pub fn report(&self, seat: &mut Seat, range: Range) -> bool
         requires board { IsSeatOf self.now seat.old }
+        requires range { IsRangeOf self.now range }
         requires own { MayReport (notes_of seat.old) range.number }
         ensures board { IsSeatOf self.now seat.new }
         ensures report { Reports self.now (notes_of seat.old) range.number result (notes_of seat.new) }
@@ -187,6 +190,18 @@ impl<A: Allocator> ClaimBoard<A> {
     {
         self.words.shared.join_seat::<Both>(seat, other);
         self.load::<Brand>(seat);
+    }
+
+    // Returns whether it is the range of this number.
+    pub(crate) fn has(&self, range: &Range, number: u64) -> bool
+        requires { IsNumber self.now.table self.now.stride number }
+        ensures { result ≡ is_range_at self.now.table self.now.stride number range.now }
+    {
+        let own = Range::numbered(self.table, self.stride, number);
+        range.table() == own.table()
+            && range.number() == own.number()
+            && range.low() == own.low()
+            && range.high() == own.high()
     }
 
     fn load<B: About>(&self, seat: &mut Seat) -> u64

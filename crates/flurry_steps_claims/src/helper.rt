@@ -12,8 +12,8 @@ use std::sync::Arc;
 
 /// A seat with an owner of its board. It claims one range after another, and reports each.
 ///
-/// Its type keeps that the seat is one of its board, and that the range whose number it holds may be reported by it. So it can wait under
-/// a lock between two calls, and nobody has to know of it then what a seat asks for.
+/// Its type keeps that the seat is one of its board, and that the range of the board whose number it holds may be reported by it. So it
+/// can wait under a lock between two calls, and nobody has to know of it then what a seat asks for.
 ///
 /// ```
 /// match helper.try_claim() {
@@ -74,20 +74,20 @@ impl<A: Allocator> Helper<A> {
         }
     }
 
-    /// Reports the range that it holds, as [`ClaimBoard::report`] does. If `range` is another one, it returns `false`, and nothing
-    /// changes.
+    /// Reports the range that it holds, as [`ClaimBoard::report`] does. If `range` is another one, of another table, number or bins, it
+    /// returns `false`, and nothing changes.
     ///
     /// Constant time: one fetch-add.
     pub fn report(&mut self, range: Range) -> bool
         ensures board { self.new.board ≡ self.old.board }
-        ensures report { holds self.old.board.table self.old.number range ≡ true
+        ensures report { holds self.old.board self.old.number range ≡ true
             → Reports self.old.board (notes_of self.old.seat) range.number result (notes_of self.new.seat)
             × (self.new.number ≡ None) }
-        ensures another { holds self.old.board.table self.old.number range ≡ false
+        ensures another { holds self.old.board self.old.number range ≡ false
             → (result ≡ false) × (self.new ≡ self.old) }
     {
         match self.number {
-            Some(number) if range.table() == self.board.table() && range.number() == number => {
+            Some(number) if self.board.has(&range, number) => {
                 self.number = None;
                 self.board.report(&mut self.seat, range)
             }
