@@ -400,7 +400,8 @@ impl<K: Ord + Drop, V: Drop, S: KeyHasher<K>, A: Allocator + Copy> HashMap<K, V,
     /// Grows the table so that `additional` more pairs fit than the map then counts. If another growth is running, it returns at once. A
     /// clear that runs meanwhile counts at its end, so beside one the table can become larger than the pairs need.
     ///
-    /// Each doubling moves every pair. Takes the control's lock, and the locks of the bins that it moves.
+    /// Each doubling moves every pair. Takes the control's lock, and the locks of the bins that it moves. A table is doubled until it is large
+    /// enough, has 2^30 bins, or memory for the next one cannot be allocated; so a request of `usize::MAX` pairs may take most of the memory.
     ///
     /// # Errors
     ///

@@ -223,7 +223,7 @@ impl<T: Ord + Drop, S: KeyHasher<T>, A: Allocator + Copy> HashSet<T, S, A> {
 
     /// Grows the table so that `additional` more elements fit than the set then counts. See [`HashMap::reserve`].
     ///
-    /// Each doubling moves every element.
+    /// Each doubling moves every element. So a request of `usize::MAX` elements may take most of the memory.
     ///
     /// # Errors
     ///

@@ -173,7 +173,7 @@ impl<'m, R: Wait, T: Ord + Drop, S: KeyHasher<T>, A: Allocator + Copy> HashSetRe
 
     /// Grows the table so that `additional` more elements fit than the set then counts. See [`HashMapRef::reserve`].
     ///
-    /// Each doubling moves every element.
+    /// Each doubling moves every element. So a request of `usize::MAX` elements may take most of the memory.
     ///
     /// # Errors
     ///
