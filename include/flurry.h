@@ -5,8 +5,8 @@
  *
  *   - A `flurry_words *` points to a struct in which flurry_words_new said FLURRY_DONE, a `flurry_bytes *` to one of flurry_bytes_new, a
  *     `flurry_word_set *` to one of flurry_word_set_new, and a `flurry_byte_set *` to one of flurry_byte_set_new, and which was not freed
- *     since. Nobody else writes to it. It may be copied to another place, but is then used and freed at that place alone. flurry_.._new and
- *     flurry_.._free ask for less, as is said there.
+ *     since. Nobody else writes to it, and nobody else reads, writes or frees what its `at` points to. It may be copied to another place,
+ *     but is then used and freed at that place alone. flurry_.._new and flurry_.._free ask for less, as is said there.
  *   - A map or a set is used by one call at a time; calls that only read count too. Any thread may make, use and free one. What orders its
  *     call after one of another thread is a lock that each holds for its call, a start or a join of a thread, or an atomic store and a load
  *     of what was stored, both of them `memory_order_seq_cst`.
@@ -16,7 +16,9 @@
  *     it only reads may overlap each other, as those of a key and a value.
  *   - A buffer is aligned as its type is, and has fewer than 2^63 bytes.
  *   - malloc, realloc and free are of one allocator, and align a block to each power of two up to 16 that divides its size.
- *   - No function is called from a signal handler, or in the child after a fork of a process with threads.
+ *   - No function is called from a signal handler, or in the child after a fork of a process with threads. A call is left by its return
+ *     alone, and not by siglongjmp or by asynchronous cancelling of its thread.
+ *   - The stack has room for the call; the most that was measured is 3.6 KB.
  *
  * No function ends the process or waits. A function says FLURRY_NO_MEMORY if memory cannot be allocated, and the map or set is then as it
  * was, unless more is said of the function. One case is no failure: if memory for a larger table cannot be allocated, an insertion does
