@@ -295,6 +295,16 @@ run_program() {
     exec "$root/crates/$crate/out/$crate" "$@"
 }
 
+# tell_usage ROOT NAME CRATE: writes the usage of a program as the source of the crate has it, where nothing need be built to read it: the
+# text that begins with `usage:`.
+tell_usage() {
+    local text
+    root=$1 name=$2
+    text=$(awk -v RS='"' '/^usage: / { print; exit }' "$root/crates/$3/src/words.rt") || text=''
+    [[ -n $text ]] || fail "there is no usage in crates/$3/src/words.rt"
+    printf '%s\n' "$text"
+}
+
 # build_archive ROOT NAME CRATE: proves and builds the static library of the crate in the same cases. Returns once it is there.
 build_archive() {
     root=$1 name=$2 crate=$3 word='' kind='static library' file=lib$3.a

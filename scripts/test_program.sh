@@ -206,6 +206,30 @@ test_no_permission() {
     chmod 755 crates/*
 }
 
+# usage PROGRAM CRATE STATUS LAST: the usage of a program comes at once, from its first line to its last, and nothing is built.
+usage() {
+    local status=0
+    mkdir -p "crates/$2/src"
+    cp -- "$scripts/../$1" .
+    cp -- "$scripts/../crates/$2/src/words.rt" "crates/$2/src"
+    bash "./$1" --help >out 2>err </dev/null || status=$?
+    is "status of $1 --help" "$status" "$3"
+    is "start of $1 --help" "$(head -c $((8 + ${#1})) out)" "usage: $1 "
+    is "end of $1 --help" "$(tail -n 1 out)" "$4"
+    is "errors of $1 --help" "$(<err)" ''
+    is "calls of $1 --help" "$(<calls)" ''
+}
+
+test_usage() {
+    begin usage
+    usage flurry-run flurry_run_words 2 'usage: flurry-run seq | world | threads N M'
+    usage stress stress 0 '  --hasher NAME  default, low (a key is its own hash) or zero (each key has the hash 0)'
+    usage bench flurry_bench 0 '  --csv         lines with commas, without the legend'
+    echo 'pub fn main() {}' >crates/stress/src/words.rt
+    ! bash ./stress --help >out 2>err || return 1
+    has 'a fault' err 'stress: there is no usage in'
+}
+
 # interrupt SIGNAL STATUS: all ends, and what was built is kept.
 interrupt() {
     local it
@@ -239,7 +263,7 @@ PATH=$room/bin:$PATH
 
 # Each case by itself, all side by side. (`set -e` holds in each, since none is part of a condition.)
 declare -A case_of=()
-for it in order renewal line edit waiting together faults no_permission interrupt end; do
+for it in order renewal line edit waiting together faults no_permission usage interrupt end; do
     ("test_$it") &
     case_of[$!]=$it
 done
