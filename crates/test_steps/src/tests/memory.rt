@@ -3,6 +3,7 @@
 
 mod drops;
 mod kinds;
+mod losses;
 mod slot;
 mod world;
 mod world_rows;
