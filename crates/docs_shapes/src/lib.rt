@@ -249,3 +249,58 @@ pub fn share_no_map<R: Threads + Wait + Sync>(rt: &R, progress: &Progress, ends:
         }
     });
 }
+
+/// What one thread is given: a struct of its own, which borrows the one with the map.
+#[derive(Drop)]
+pub struct Desk<'s> {
+    visits: &'s Visits,
+    noted: u64,
+}
+
+impl Desk<'_> {
+    /// Notes each visit, and returns how many were the first of their visitors.
+    pub fn note_each<R: Wait>(mut self, rt: &R, ids: &[u64]) -> u64 {
+        for id in ids {
+            if self.visits.visit(rt, *id, 1) {
+                self.noted = self.noted.saturating_add(1);
+            }
+        }
+        self.noted
+    }
+}
+
+/// Notes the visits in two threads, each of which owns a struct that borrows the map.
+pub fn own_borrower<R: Threads + Wait + Sync>(rt: &R, visits: &Visits, ids: &[u64]) {
+    thread::scope(thread::scope_env(), rt, |scope| {
+        for noted in 0..2u64 {
+            let desk = Desk { visits, noted };
+            let child = scope.spawn(move || desk.note_each(rt, ids));
+            drop(child);
+        }
+    });
+}
+
+/// What one thread is given: a struct that is `Copy` and has an allocator.
+#[derive(Clone, Copy)]
+pub struct Naming {
+    alloc: Global,
+    id: u64,
+}
+
+impl Naming {
+    /// Names the visitor, and returns `true` if memory could be allocated.
+    pub fn name<R: Wait>(self, rt: &R, names: &Names) -> bool {
+        names.name(rt, self.alloc, self.id, "guest").is_ok()
+    }
+}
+
+/// Names two visitors, each in a thread of its own, which has a copy of a struct with an allocator.
+pub fn own_copy<R: Threads + Wait + Sync>(rt: &R, alloc: Global, names: &Names) {
+    thread::scope(thread::scope_env(), rt, |scope| {
+        for id in 0..2u64 {
+            let naming = Naming { alloc, id };
+            let child = scope.spawn(move || naming.name(rt, names));
+            drop(child);
+        }
+    });
+}
