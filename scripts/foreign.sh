@@ -2,6 +2,8 @@
 # Tries libflurry.a from C and from Rust, over what `./flurry-c` leaves. Each fault is told, and the status is then 1. Without `cargo`
 # nothing is tried in Rust. Without `cc`, by which cargo links too, nothing is tried at all, and the status is 3. Both are said.
 #
+#   foreign.sh [--built]   --built proves nothing: without a library of these sources nothing is tried, which is said, and the status is 3
+#
 # In C: the names in the header; the example of README, also as C++; and, under the address sanitizer, calls of which each request for
 # memory is refused in turn, and random calls of maps and of sets beside arrays. The sanitizer sees the blocks of the archive and what the
 # archive passes to the C library; its own reads and writes are not instrumented. In Rust: the tests of rust/flurry-shards and the examples
@@ -19,6 +21,13 @@ fault() {
     echo "foreign: $1" >&2
     status=1
 }
+
+# Whether a library of these sources is there.
+is_built() (
+    # shellcheck source=scripts/program.sh
+    source scripts/program.sh
+    is_archive_fresh "$here" foreign flurry_c
+)
 
 # The header declares what the archive has, by name.
 try_names() {
@@ -67,6 +76,10 @@ try_rust() {
 
 if ! command -v cc >/dev/null 2>&1; then
     echo "foreign: there is no 'cc', so nothing was tried in C or in Rust" >&2
+    exit 3
+fi
+if [[ ${1-} == --built ]] && ! is_built; then
+    echo "foreign: there is no library of these sources, and none is made without its proofs, by ./flurry-c; so nothing was tried in C or in Rust" >&2
     exit 3
 fi
 ./flurry-c

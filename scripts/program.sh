@@ -311,3 +311,10 @@ build_archive() {
     freshen
     trap - EXIT HUP INT TERM
 }
+
+# is_archive_fresh ROOT NAME CRATE: whether the static library is there, and nothing that it stands on has changed.
+is_archive_fresh() {
+    root=$1 name=$2 crate=$3 word='' kind='static library' file=lib$3.a
+    read_crates
+    is_program_fresh
+}
