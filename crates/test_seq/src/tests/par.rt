@@ -1,6 +1,7 @@
 //! Maps and sets that are built in parallel, and joined.
 
 mod at_once;
+mod nothing;
 mod refused;
 
 use super::keys::Tagged;
