@@ -9,6 +9,8 @@
 # archive passes to the C library; its own reads and writes are not instrumented. In Rust: the tests of rust/flurry-shards and the examples
 # in its comments.
 set -euo pipefail
+# (the sourced script has a `room` of its own, in a subshell)
+# shellcheck disable=SC2030,SC2031
 
 here=$(CDPATH='' cd -- "$(dirname -- "$(readlink -f -- "${BASH_SOURCE[0]}")")/.." && pwd -P)
 cd -- "$here"

@@ -49,6 +49,7 @@ check_sources() {
     python3 -B scripts/links.py . || status=1
     python3 -B scripts/api.py --check . || status=1
     python3 -B scripts/examples.py . || status=1
+    python3 -B scripts/rust_tests.py . || status=1
     check_makers flurry_steps_claims Range || status=1
     check_makers flurry_steps_claims Attempt try_claim || status=1
     check_makers flurry_steps_control Claim of into_range || status=1

@@ -2,6 +2,7 @@
 
 mod calls;
 mod change;
+mod counterparts;
 mod locks;
 mod memo;
 mod order;

@@ -1,0 +1,7 @@
+use denote.Param.Send.{sendable}
+use Rattle.std.proofs.Crossing.{crosses}
+use Rattle.flurry_shared_set.proofs.Crossing.{set_sync}
+use Rattle.test_shared.proofs.tests.counterparts.sets.insert_in_threads.Goals as goal
+
+pub join-requires-send-F : goal.join-requires-send-F
+join-requires-send-F g c κs within = search (set_sync, crosses, sendable) depth 60
