@@ -8,9 +8,9 @@
 # memory is refused in turn, and random calls of maps and of sets beside arrays. The sanitizer sees the blocks of the archive and what the
 # archive passes to the C library; its own reads and writes are not instrumented. In Rust: the tests of rust/flurry-shards and the examples
 # in its comments.
-set -euo pipefail
 # (the sourced script has a `room` of its own, in a subshell)
 # shellcheck disable=SC2030,SC2031
+set -euo pipefail
 
 here=$(CDPATH='' cd -- "$(dirname -- "$(readlink -f -- "${BASH_SOURCE[0]}")")/.." && pwd -P)
 cd -- "$here"
