@@ -1,5 +1,7 @@
 //! Calls that change a pair by a function, which is called while the bin of the key is locked.
 
+mod many;
+
 use super::workers::insert_all;
 use super::{TURNS, assert_same, insert, number_at, taken};
 use flurry_base::Change;

@@ -4,9 +4,11 @@ mod calls;
 mod growths;
 mod order;
 mod readers;
+mod tallies;
 mod threads;
 
 use super::assert_same;
+pub(super) use calls::stop;
 use calls::{first_step, put_all};
 use flurry_bins_slots::NoFn;
 use flurry_shared_locks::{LockField, Locks};
@@ -29,6 +31,7 @@ fn does_first_steps<A: Allocator + Copy, R: Abort + Wait>(rt: &R, locks: &Locks<
     let insertion: OwnedCall<u64, u64, NoFn> = OwnedCall::Insert(7, 0);
     let opened = first_step(rt, locks, 7, insertion);
     assert_same(rt, opened, Some(Event::Opened(4)));
+    assert_same(rt, newest_of(rt, locks), Some(4));
 }
 
 #[test]

@@ -110,6 +110,16 @@ fn eight_threads_agree_on_a_hundred_keys(rt: HostRuntime) {
     assert_same(rt, memo.len(rt), 100);
 }
 
+#[test]
+fn two_thousand_keys_asked_twice(rt: HostRuntime) {
+    let rt = &rt;
+    let memo = &Memo::with_hasher(rt.alloc(), LowHashBuilder);
+    let first = values(rt, rt.alloc(), memo, 2000, 1).expect(rt, "memory");
+    let again = values(rt, rt.alloc(), memo, 2000, 2).expect(rt, "memory");
+    assert_same(rt, first == again, true);
+    assert_same(rt, memo.len(rt), 2000);
+}
+
 // The Fibonacci number `n`, whose value is computed of those of the two numbers below.
 fn fibonacci<R: Wait>(rt: &R, memo: &Numbers<Global>, n: u64) -> u64 {
     if n < 2 {

@@ -39,6 +39,7 @@ enum Call {
     GetOrInsert,
     Get,
     Reserve(usize),
+    Clear,
 }
 
 // Returns whether a call succeeded. What it returned is dropped here, since each drop in the body of the calls would make its proof longer.
@@ -65,6 +66,10 @@ fn is_done<A: Allocator + Copy, R: Wait>(rt: &R, map: &Numbers<A>, call: Call) -
         Call::GetOrInsert => succeeded(map.get_or_insert_with(rt, 99, |_| 1)),
         Call::Get => succeeded(map.get(rt, &0)),
         Call::Reserve(pairs) => succeeded(map.reserve(rt, pairs)),
+        Call::Clear => {
+            map.clear(rt);
+            true
+        }
     }
 }
 
@@ -147,6 +152,8 @@ fn each_request_of_a_call(rt: HostRuntime) {
         (1, Call::Get, 0),
         (0, Call::Reserve(100), 9),
         (1, Call::Reserve(100), 35),
+        (0, Call::Clear, 0),
+        (1, Call::Clear, 0),
     ] {
         refuse_each(&rt, memory, (keys, call), requests);
     }
@@ -201,6 +208,35 @@ fn a_refused_growth_leaves_nothing(rt: HostRuntime) {
         let (seen, again) = call_without(rt, memory, (11, Call::Reserve(1)), k);
         assert_same(rt, (k, seen), (k, (true, false, true, 11)));
         assert_same(rt, (k, again), (k, (true, asked)));
+    }
+}
+
+// Returns whether a call succeeded while the request numbered `k` failed, and how many blocks more or fewer there are after it.
+fn blocks_left<A: Allocator + Copy, R: Wait>(
+    rt: &R,
+    metered: &MeteredAlloc<Global>,
+    k: u64,
+    map: &Numbers<A>,
+    call: Call,
+) -> (bool, u64) {
+    let before = metered.live_blocks();
+    metered.refuse_at(k);
+    let done = is_done(rt, map, call);
+    metered.refuse_nothing();
+    (done, metered.live_blocks().abs_diff(before))
+}
+
+fn blocks_left_in_new<R: Abort + Wait>(rt: &R, memory: Memory, k: u64) -> (bool, u64) {
+    blocks_left(rt, memory, k, &numbers(rt, memory, 11), Call::Reserve(1))
+}
+
+// Nor does it keep memory as long as the map lives.
+#[test]
+fn a_refused_growth_keeps_no_block(rt: HostRuntime) {
+    let rt = &rt;
+    let memory = metered(rt, rt.alloc());
+    for k in 0..7u64 {
+        assert_same(rt, (k, blocks_left_in_new(rt, memory, k)), (k, (false, 0)));
     }
 }
 
@@ -374,4 +410,17 @@ fn much_room(rt: HostRuntime) {
     let map: HashMap<u64, u64> = HashMap::with_capacity(rt.alloc(), 5000).expect(rt, "memory");
     map.reserve(rt, 40_000).expect(rt, "memory");
     assert_same(rt, map.len(rt), 0);
+}
+
+// Memory for a table is asked for up to 2^30 bins. It is refused, so the test takes none.
+#[test]
+fn room_of_each_size(rt: HostRuntime) {
+    let rt = &rt;
+    let memory = metered(rt, rt.alloc());
+    for bits in 16..30u32 {
+        memory.refuse_at(0);
+        let made = succeeded(map_with_room(memory, 1usize << bits));
+        assert_same(rt, (bits, made, memory.requests()), (bits, false, 1));
+        memory.refuse_nothing();
+    }
 }

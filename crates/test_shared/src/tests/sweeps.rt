@@ -2,6 +2,7 @@
 
 mod beside;
 mod bulk;
+mod clones;
 mod drops;
 mod kept;
 mod refused;

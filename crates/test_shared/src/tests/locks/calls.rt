@@ -54,6 +54,35 @@ pub(super) fn first_step<K: Ord + Drop, V: Drop, A: Allocator + Copy, F: Compute
     event
 }
 
+// Does the first steps of a call without a function, `steps` of them, and then stops for good. Returns what the last of them was.
+pub(crate) fn stop<K: Ord + Drop, V: Drop, A: Allocator + Copy, R: Wait>(
+    rt: &R,
+    locks: &Locks<K, V, A>,
+    hash: u64,
+    call: OwnedCall<K, V, NoFn>,
+    steps: u64,
+) -> Option<Event> {
+    let mut party = Party::from_owned(call, hash, 4);
+    let mut lock_field = CallField::new(&LockField::new(rt, locks));
+    let last = act_often(&mut party, &mut lock_field, steps);
+    drop(lock_field);
+    drop(party);
+    last
+}
+
+// Does the next steps of a call, which is lent, since a proof goes through all that a loop owns. Returns what the last of them was.
+pub(super) fn act_often<K: Ord + Drop, V: Drop, A: Allocator + Copy, R: Wait>(
+    party: &mut Party<&K, K, V, NoFn, A>,
+    lock_field: &mut CallField<'_, R, K, V, A>,
+    steps: u64,
+) -> Option<Event> {
+    let mut last = None;
+    for _ in 0..steps {
+        last = lock_field.act(party);
+    }
+    last
+}
+
 // Returns whether a reply says that a key is present.
 pub(super) fn is_present<K: Ord + Drop, V: Drop, A: Allocator + Copy>(
     reply: &Reply<K, V, A>,

@@ -1,12 +1,12 @@
 //! Growths that several threads help, and a helper that stops in the middle of one.
 
-use super::calls::{count_found, put_all};
+use super::calls::{act_often, count_found, put_all, stop};
 use super::{assert_same, newest_of};
-use flurry_bins_slots::{ComputeFn, NoFn};
+use flurry_bins_slots::NoFn;
 use flurry_shared_locks::{CallField, LockField, Locks};
 use flurry_steps::Party;
 use flurry_steps::party::{Event, OwnedCall};
-use std::alloc::Allocator;
+use std::alloc::{Allocator, Global};
 use std::process::Abort;
 use std::sync::Wait;
 use std::sync::atomic::{AtomicU64, Ordering};
@@ -52,44 +52,6 @@ impl Work {
     }
 }
 
-// Does the first steps of a call, at most `most`, and notes what they are. Returns what the last of them was. The call is then dropped,
-// wherever it is.
-fn do_steps<A: Allocator + Copy, F: ComputeFn<u64, u64>, R: Wait>(
-    rt: &R,
-    locks: &Locks<u64, u64, A>,
-    hash: u64,
-    call: OwnedCall<u64, u64, F>,
-    most: u64,
-    work: &Work,
-) -> Option<Event>
-    requires { (f : F) → F.can_change f × F.never_keeps f }
-{
-    let mut party = Party::from_owned(call, hash, 4);
-    let mut lock_field = CallField::new(&LockField::new(rt, locks));
-    let last = acts(&mut party, &mut lock_field, most, work);
-    drop(lock_field);
-    drop(party);
-    last
-}
-
-// Does the next steps of a call, which is lent, since a proof goes through all that a loop owns.
-fn acts<A: Allocator + Copy, F: ComputeFn<u64, u64>, R: Wait>(
-    party: &mut Party<&u64, u64, u64, F, A>,
-    lock_field: &mut CallField<'_, R, u64, u64, A>,
-    most: u64,
-    work: &Work,
-) -> Option<Event> {
-    let mut last = None;
-    for _ in 0..most {
-        let Some(event) = lock_field.act(party) else {
-            break;
-        };
-        work.note(event);
-        last = Some(event);
-    }
-    last
-}
-
 // Does all steps of a call of numbers, and notes what they are.
 fn do_call<A: Allocator + Copy, R: Wait>(
     rt: &R,
@@ -98,7 +60,25 @@ fn do_call<A: Allocator + Copy, R: Wait>(
     call: OwnedCall<u64, u64, NoFn>,
     work: &Work,
 ) {
-    let _ = do_steps(rt, locks, hash, call, u64::MAX, work);
+    let mut party: Party<&u64, u64, u64, NoFn, A> = Party::from_owned(call, hash, 4);
+    let mut lock_field = CallField::new(&LockField::new(rt, locks));
+    act_to_the_end(&mut party, &mut lock_field, work);
+    drop(lock_field);
+    drop(party);
+}
+
+// Does the steps that are left of a call, which is lent, since a proof goes through all that a loop owns.
+fn act_to_the_end<A: Allocator + Copy, R: Wait>(
+    party: &mut Party<&u64, u64, u64, NoFn, A>,
+    lock_field: &mut CallField<'_, R, u64, u64, A>,
+    work: &Work,
+) {
+    for _ in 0..u64::MAX {
+        let Some(event) = lock_field.act(party) else {
+            break;
+        };
+        work.note(event);
+    }
 }
 
 // Inserts pairs into the last bin, whose growth is the first to be moved, until the larger table is published. Returns how many pairs it
@@ -166,17 +146,6 @@ fn eight_threads_grow_a_table(rt: HostRuntime) {
     each_bin_is_moved_once(&rt, &locks, 8);
 }
 
-// Does the first steps of a call, `steps` of them, and then stops for good. Returns what the last of them was.
-pub(super) fn stop<A: Allocator + Copy, R: Wait>(
-    rt: &R,
-    locks: &Locks<u64, u64, A>,
-    hash: u64,
-    call: OwnedCall<u64, u64, NoFn>,
-    steps: u64,
-) -> Option<Event> {
-    do_steps(rt, locks, hash, call, steps, &Work::new())
-}
-
 // Begins a growth of the table, by a call that stops once it has claimed the topmost range and moved one bin of it.
 fn stop_in_a_growth<A: Allocator + Copy, R: Wait>(
     rt: &R,
@@ -240,7 +209,8 @@ fn steps_of<A: Allocator + Copy, R: Wait>(
 }
 
 // A call gives back its seat, also one that stops while it has it. So each later call has one: it finds a moved bin, a seat, nothing to
-// claim, gives the seat back, decides, and counts. With the step that finds the table that is seven steps.
+// claim, gives the seat back, decides, and counts. With the step that finds the table that is seven steps. The growth is divided: of 64 bins,
+// the call that stops has claimed 16, and the next one moves the other 48.
 fn twenty_calls_have_a_seat<A: Allocator + Copy, R: Abort + Wait>(
     rt: &R,
     locks: &Locks<u64, u64, A>,
@@ -250,7 +220,9 @@ fn twenty_calls_have_a_seat<A: Allocator + Copy, R: Abort + Wait>(
         stop_in_a_growth(rt, locks, 40),
         Some(Event::Moved(6, 63)),
     );
-    let _moves_the_rest = steps_of(rt, locks, 63, OwnedCall::Insert(0, 0));
+    let work = Work::new();
+    do_call(rt, locks, 63, OwnedCall::Insert(0, 0), &work);
+    assert_same(rt, work.moved.load(Ordering::SeqCst), 48);
     for number in 1..20u64 {
         let stopped = stop(rt, locks, 63, OwnedCall::Insert(number, 0), 3);
         assert_same(rt, stopped, Some(Event::Silent));
@@ -287,6 +259,38 @@ fn is_due_until_nothing_is_left<A: Allocator + Copy, R: Abort + Wait>(
     let _moves_the_rest = steps_of(rt, locks, 1023, OwnedCall::Insert(0, 0));
     assert_same(rt, is_growth_due(rt, locks), false);
     assert_same(rt, newest_of(rt, locks), Some(10));
+}
+
+// Does the first steps of a call up to the one that takes a seat, which never comes back.
+fn keep_a_seat<R: Abort + Wait>(rt: &R, alloc: Global, locks: &Locks<u64, u64>, key: u64) {
+    let call: OwnedCall<u64, u64, NoFn> = OwnedCall::Insert(key, 0);
+    let mut party = Party::from_owned(call, 1023, 4);
+    let lock_field = CallField::new(&LockField::new(rt, locks));
+    let lock_field = Box::leak(Box::new(alloc, lock_field).expect(rt, "memory"));
+    let last = act_often(&mut party, lock_field, 3);
+    drop(party);
+    assert_same(rt, last, Some(Event::Silent));
+}
+
+// Calls count at the control while there are seats for helpers, and at tallies once a call has found none.
+fn is_due_while_seats_are_left<R: Abort + Wait>(rt: &R, alloc: Global, locks: &Locks<u64, u64>) {
+    assert_same(
+        rt,
+        stop_in_a_growth(rt, locks, 600),
+        Some(Event::Moved(10, 1023)),
+    );
+    for key in 0..8u64 {
+        keep_a_seat(rt, alloc, locks, key);
+        assert_same(rt, (key, is_growth_due(rt, locks)), (key, true));
+    }
+    keep_a_seat(rt, alloc, locks, 8);
+    assert_same(rt, is_growth_due(rt, locks), false);
+}
+
+#[test]
+fn a_growth_is_due_while_seats_are_left(rt: HostRuntime) {
+    let locks = &Locks::with_table(rt.alloc(), 10).expect(&rt, "memory");
+    is_due_while_seats_are_left(&rt, rt.alloc(), locks);
 }
 
 #[test]

@@ -1,4 +1,4 @@
-//! No step holds the lock of a bin and that of the control.
+//! No step holds the lock of a bin and that of the control, and a move takes that of its bin first.
 
 use super::assert_same;
 use super::calls::reply_of;
@@ -26,9 +26,11 @@ fn is_set_in_time(flag: &AtomicBool) -> bool {
     false
 }
 
-// How far three threads are: one holds a bin, one is about to ask for that bin, and one has counted the pairs.
+// How far three threads are: one holds a bin, one is about to ask for that bin, to insert a pair or to move it, and one has counted the
+// pairs.
 #[derive(Drop)]
 struct Flags {
+    moves: bool,
     holds: AtomicBool,
     asks: AtomicBool,
     has_counted: AtomicBool,
@@ -68,18 +70,31 @@ fn hold<A: Allocator + Copy, R: Wait>(rt: &R, locks: &Locks<u64, u64, A>, flags:
 fn ask<A: Allocator + Copy, R: Wait>(rt: &R, locks: &Locks<u64, u64, A>, flags: &Flags) {
     let _ = is_set_in_time(&flags.holds);
     flags.asks.store(true, Ordering::SeqCst);
-    let call: OwnedCall<u64, u64, NoFn> = OwnedCall::Insert(1, 2);
+    let call: OwnedCall<u64, u64, NoFn> = if flags.moves {
+        OwnedCall::Reserve(20)
+    } else {
+        OwnedCall::Insert(1, 2)
+    };
     drop(reply_of(rt, locks, 1, call));
 }
 
-// Counts the pairs, once the other threads hold the bin and wait for it. A thread that waits for a lock cannot be seen, so this gives it
-// some turns to come there.
+// Takes the lock of a bin that is there.
+fn look_at<A: Allocator, R: Wait>(rt: &R, locks: &Locks<u64, u64, A>, table: u8, index: usize) {
+    if let Some(slot) = LockField::new(rt, locks).slot(table, index) {
+        drop(slot.read(rt));
+    }
+}
+
+// Counts the pairs, once the other threads hold the bin and wait for it, and looks at the halves of the bin in a larger table. A thread that
+// waits for a lock cannot be seen, so this gives it some turns to come there.
 fn count<A: Allocator + Copy, R: Wait>(rt: &R, locks: &Locks<u64, u64, A>, flags: &Flags) {
     let _ = is_set_in_time(&flags.asks);
     for _ in 0..1_000u32 {
         thread::yield_now();
     }
     let _ = LockField::new(rt, locks).len();
+    look_at(rt, locks, 5, 1);
+    look_at(rt, locks, 5, 17);
     flags.has_counted.store(true, Ordering::SeqCst);
 }
 
@@ -102,8 +117,10 @@ fn in_three_threads<A: Allocator + Copy + Send + Sync, R: Threads + Wait + Sync>
 fn counts_in_time<A: Allocator + Copy + Send + Sync, R: Threads + Wait + Sync>(
     rt: &R,
     locks: &Locks<u64, u64, A>,
+    moves: bool,
 ) -> bool {
     let flags = Flags {
+        moves,
         holds: AtomicBool::new(false),
         asks: AtomicBool::new(false),
         has_counted: AtomicBool::new(false),
@@ -119,5 +136,12 @@ fn counts_in_time<A: Allocator + Copy + Send + Sync, R: Threads + Wait + Sync>(
 #[test]
 fn pairs_are_counted_while_a_call_waits_for_a_bin(rt: HostRuntime) {
     let locks = Locks::new(rt.alloc());
-    assert_same(&rt, counts_in_time(&rt, &locks), true);
+    assert_same(&rt, counts_in_time(&rt, &locks, false), true);
+}
+
+// A call that waits for a bin to move it holds no lock of the control, and none of the halves.
+#[test]
+fn pairs_are_counted_while_a_call_waits_to_move_a_bin(rt: HostRuntime) {
+    let locks = Locks::new(rt.alloc());
+    assert_same(&rt, counts_in_time(&rt, &locks, true), true);
 }

@@ -210,7 +210,7 @@ fn walks_beside_insertions(rt: HostRuntime) {
         Work::Walk(2),
         Work::Walk(2),
         Work::Walk(2),
-        Work::Visit(2),
+        Work::Visit(3),
     ];
 
     assert_same(rt, work_in_threads(rt, map, &works), 0);

@@ -4,10 +4,14 @@ ghost use Rattle.std.specs.Cmp.{partial_order_from_own_ties};
 ghost use Rattle.std.specs.Cmp.Rules.{comparing};
 ghost use Rattle.std.specs.Ordering.{nat_cmp, on, as_partial_cmp};
 
+mod deeds;
+mod moved;
+mod refused;
+
 use super::assert_same;
+use deeds::{Deed, does};
 use flurry_base::hash::ZeroHashBuilder;
-use flurry_shared::HashMap;
-use flurry_shared::iter::Iter;
+use flurry_shared::{HashMap, HashMapRef};
 use flurry_shared_set::HashSet;
 use std::alloc::{Allocator, Global};
 use std::cmp::Ordering;
@@ -132,29 +136,10 @@ impl PartialOrd for Guest {
     }
 }
 
-// A map that has one bin.
+// A map that has one bin, and a view of one.
 type Guests<A> = HashMap<Guest, Guest, ZeroHashBuilder, A>;
 
-// What is done while a key or a value has a meeting.
-#[derive(Clone, Copy, Debug, PartialEq, Eq)]
-enum Deed {
-    Clear,
-    Replace,
-    Erase,
-    Compute,
-    Merge,
-    Update,
-    RemoveIf,
-    ReplaceIf,
-    ReplaceNothing,
-    ComputeNowhere,
-    Remove,
-    Insert,
-    TryInsert,
-    Retain,
-    RetainForce,
-    Read,
-}
+type GuestsRef<'m, R, A> = HashMapRef<'m, R, Guest, Guest, ZeroHashBuilder, A>;
 
 // Who has the meeting.
 #[derive(Clone, Copy, Debug, PartialEq, Eq)]
@@ -173,140 +158,44 @@ fn guest_of(number: u64, is_asked: bool, meeting: &'static Meeting) -> Guest {
     }
 }
 
-// Replaces the value at the key 1.
-fn replaces<A: Allocator + Copy, R: Wait>(rt: &R, map: &Guests<A>) {
-    drop(map.compute_if_present(rt, &Guest::new(1), |_, _| Some(Guest::new(3))));
-}
-
-// Removes the pair at the key 1 by a computation.
-fn erases<A: Allocator + Copy, R: Wait>(rt: &R, map: &Guests<A>) {
-    drop(map.compute_if_present(rt, &Guest::new(1), |_, _| None));
-}
-
-// Computes nothing at an absent key, by a function that owns a guest.
-fn computes_nowhere<A: Allocator + Copy, R: Wait>(rt: &R, map: &Guests<A>, kept: Guest) {
-    drop(map.compute_if_present(rt, &Guest::new(3), move |_, _| Some(kept)));
-}
-
-// Changes the value at the key 1, which is passed in.
-fn computes<A: Allocator + Copy, R: Wait>(rt: &R, map: &Guests<A>, one: Guest) {
-    drop(map.compute(rt, one, |_, _| Some(Guest::new(3))));
-}
-
-// Changes the value at the key 1, which is passed in, by one that is passed in.
-fn merges<A: Allocator + Copy, R: Wait>(rt: &R, map: &Guests<A>, one: Guest) {
-    drop(map.merge(rt, one, Guest::new(3), |_, new| Some(new)));
-}
-
-fn updates<A: Allocator + Copy, R: Wait>(rt: &R, map: &Guests<A>) {
-    drop(map.update(rt, &Guest::new(1), |_, _| Guest::new(3)));
-}
-
-fn removes_if<A: Allocator + Copy, R: Wait>(rt: &R, map: &Guests<A>) {
-    drop(map.remove_if(rt, &Guest::new(1), |_, _| true));
-}
-
-// Replaces the value at the key 1, or drops the new one.
-fn replaces_if<A: Allocator + Copy, R: Wait>(rt: &R, map: &Guests<A>, passes: bool, new: Guest) {
-    drop(map.replace_if(rt, &Guest::new(1), move |_, _| passes, new));
-}
-
-// Inserts the key 1, which is present.
-fn inserts<A: Allocator + Copy, R: Wait>(rt: &R, map: &Guests<A>, one: Guest) {
-    drop(map.insert(rt, one, Guest::new(3)));
-}
-
-fn inserts_once<A: Allocator + Copy, R: Wait>(rt: &R, map: &Guests<A>, one: Guest) {
-    drop(map.try_insert(rt, one, Guest::new(3)));
-}
-
-fn removes<A: Allocator + Copy, R: Wait>(rt: &R, map: &Guests<A>) {
-    drop(map.remove(rt, &Guest::new(1)));
-}
-
-fn retains_none<A: Allocator + Copy, R: Wait>(rt: &R, map: &Guests<A>) {
-    drop(map.retain(rt, |_, _| false));
-}
-
-fn retains_none_by_force<A: Allocator + Copy, R: Wait>(rt: &R, map: &Guests<A>) {
-    drop(map.retain_force(rt, |_, _| false));
-}
-
-// Reads the next pair, and drops it. It borrows the iterator, because a body that owns it has a proof of its drop at each way out.
-fn reads_one<A: Allocator + Copy, R: Wait>(pairs: &mut Iter<'_, R, Guest, Guest, A>) {
-    drop(pairs.next());
-}
-
-// Walks past the first pair, which is removed meanwhile.
-fn reads<A: Allocator + Copy, R: Wait>(rt: &R, map: &Guests<A>) {
-    let mut pairs = map.iter(rt);
-    reads_one(&mut pairs);
-    removes(rt, map);
-    reads_one(&mut pairs);
-    drop(pairs)
-}
-
-// Does the deed in a map of the keys 1 and 2, or in a new one. A deed that is refused meets nobody, and its row fails.
-fn does<A: Allocator + Copy, R: Wait>(rt: &R, map: &Guests<A>, deed: Deed, passed: Guest) {
-    match deed {
-        Deed::Clear => map.clear(rt),
-        Deed::Replace => replaces(rt, map),
-        Deed::Erase => erases(rt, map),
-        Deed::Compute => computes(rt, map, passed),
-        Deed::Merge => merges(rt, map, passed),
-        Deed::Update => updates(rt, map),
-        Deed::RemoveIf => removes_if(rt, map),
-        Deed::ReplaceIf => replaces_if(rt, map, true, passed),
-        Deed::ReplaceNothing => replaces_if(rt, map, false, passed),
-        Deed::ComputeNowhere => computes_nowhere(rt, map, passed),
-        Deed::Remove => removes(rt, map),
-        Deed::Insert => inserts(rt, map, passed),
-        Deed::TryInsert => inserts_once(rt, map, passed),
-        Deed::Retain => retains_none(rt, map),
-        Deed::RetainForce => retains_none_by_force(rt, map),
-        Deed::Read => reads(rt, map),
-    }
-}
-
-// Does calls in the bin once something is dropped.
-fn answers<A: Allocator + Copy, R: Wait>(rt: &R, map: &Guests<A>, meeting: &Meeting) {
+// Does calls in the bin once something is dropped, and then counts the pairs, at the control.
+fn answers<A: Allocator + Copy, R: Wait>(view: &GuestsRef<'_, R, A>, meeting: &Meeting) {
     if !meeting.sees_a_drop() {
         return;
     }
-    map.contains_key(rt, &Guest::new(2));
-    drop(map.remove(rt, &Guest::new(5)));
+    view.contains_key(&Guest::new(2));
+    drop(view.remove(&Guest::new(5)));
+    let _pairs = view.len();
     set_flag(&meeting.is_answered);
 }
 
 // Does the deed beside the calls of another thread.
 fn in_two_threads<A: Allocator + Copy + Send + Sync, R: Threads + Wait + Sync>(
-    rt: &R,
-    map: &Guests<A>,
+    view: &GuestsRef<'_, R, A>,
     deed: Deed,
     who: Who,
     meeting: &'static Meeting,
 ) {
     thread::join(
-        rt,
+        view.runtime(),
         move || {
-            does(rt, map, deed, guest_of(1, who == Who::PassedIn, meeting));
+            does(view, deed, guest_of(1, who == Who::PassedIn, meeting));
             set_flag(&meeting.is_over);
         },
-        move || answers(rt, map, meeting),
+        move || answers(view, meeting),
     );
 }
 
 // Inserts the keys 1 and 2.
 fn fill<A: Allocator + Copy, R: Wait>(
-    rt: &R,
-    map: &Guests<A>,
+    view: &GuestsRef<'_, R, A>,
     who: Who,
     meeting: &'static Meeting,
 ) {
     let key = guest_of(1, who == Who::Key, meeting);
     let value = guest_of(1, who == Who::Value, meeting);
-    drop(map.insert(rt, key, value));
-    drop(map.insert(rt, Guest::new(2), Guest::new(2)));
+    drop(view.insert(key, value));
+    drop(view.insert(Guest::new(2), Guest::new(2)));
 }
 
 fn meets<R: Abort + Threads + Wait + Sync>(
@@ -318,10 +207,11 @@ fn meets<R: Abort + Threads + Wait + Sync>(
 ) -> bool {
     let meeting = Meeting::leak(rt, alloc);
     let map: &Guests<Global> = &HashMap::with_hasher(alloc, ZeroHashBuilder);
+    let view = &map.pin(rt);
     if !is_new {
-        fill(rt, map, who, meeting);
+        fill(view, who, meeting);
     }
-    in_two_threads(rt, map, deed, who, meeting);
+    in_two_threads(view, deed, who, meeting);
     meeting.has_met()
 }
 
@@ -339,12 +229,17 @@ fn calls_of_a_map(rt: HostRuntime) {
         (Deed::Merge, Who::PassedIn),
         (Deed::Merge, Who::Value),
         (Deed::Update, Who::Value),
+        (Deed::UpdateNowhere, Who::PassedIn),
         (Deed::RemoveIf, Who::Key),
         (Deed::RemoveIf, Who::Value),
+        (Deed::RemoveNowhere, Who::PassedIn),
         (Deed::ReplaceIf, Who::Value),
         (Deed::ReplaceNothing, Who::PassedIn),
+        (Deed::ReplaceNowhere, Who::PassedIn),
         (Deed::ComputeNowhere, Who::PassedIn),
         (Deed::Remove, Who::Key),
+        (Deed::RemoveSeen, Who::Key),
+        (Deed::RemoveSeen, Who::Value),
         (Deed::Insert, Who::PassedIn),
         (Deed::TryInsert, Who::PassedIn),
         (Deed::Retain, Who::Key),

@@ -93,11 +93,19 @@ fn each_key_is_visited_once(rt: HostRuntime) {
 }
 
 #[test]
+fn any_looks_through_two_thousand_pairs(rt: HostRuntime) {
+    let rt = &rt;
+    let map = numbers(rt, rt.alloc(), 2000);
+    let seen = map.any(rt, |key: &u64, _value: &u64| -> bool { *key == 2000 });
+    assert_same(rt, seen.ok(), Some(false));
+}
+
+#[test]
 fn views_print_how_many(rt: HostRuntime) {
     let rt = &rt;
-    let map = numbers(rt, rt.alloc(), 2);
+    let map = numbers(rt, rt.alloc(), 13);
     let text = debug_of(rt, rt.alloc(), &map.pin(rt));
-    assert_same(rt, text.as_str(), "HashMapRef { len: 2, .. }");
+    assert_same(rt, text.as_str(), "HashMapRef { len: 13, .. }");
     let text = debug_of(rt, rt.alloc(), &map);
     assert_same(rt, text.as_str(), "HashMap { .. }");
 }
