@@ -209,8 +209,8 @@ fn steps_of<A: Allocator + Copy, R: Wait>(
 }
 
 // A call gives back its seat, also one that stops while it has it. So each later call has one: it finds a moved bin, a seat, nothing to
-// claim, gives the seat back, decides, and counts. With the step that finds the table that is seven steps. The growth is divided: of 64 bins,
-// the call that stops has claimed 16, and the next one moves the other 48.
+// claim, gives the seat back, decides, and counts. With the step that finds the table that is seven steps. The growth is divided: of 64
+// bins, the call that stops has claimed 16, and the next one moves the other 48.
 fn twenty_calls_have_a_seat<A: Allocator + Copy, R: Abort + Wait>(
     rt: &R,
     locks: &Locks<u64, u64, A>,

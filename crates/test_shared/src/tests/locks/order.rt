@@ -85,8 +85,8 @@ fn look_at<A: Allocator, R: Wait>(rt: &R, locks: &Locks<u64, u64, A>, table: u8,
     }
 }
 
-// Counts the pairs, once the other threads hold the bin and wait for it, and looks at the halves of the bin in a larger table. A thread that
-// waits for a lock cannot be seen, so this gives it some turns to come there.
+// Counts the pairs, once the other threads hold the bin and wait for it, and looks at the halves of the bin in a larger table. A thread
+// that waits for a lock cannot be seen, so this gives it some turns to come there.
 fn count<A: Allocator + Copy, R: Wait>(rt: &R, locks: &Locks<u64, u64, A>, flags: &Flags) {
     let _ = is_set_in_time(&flags.asks);
     for _ in 0..1_000u32 {

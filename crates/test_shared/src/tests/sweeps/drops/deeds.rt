@@ -133,7 +133,8 @@ fn removes_as_read<A: Allocator + Copy, R: Wait>(view: &GuestsRef<'_, R, A>) {
     }
 }
 
-// Does the deed in a map of the keys 1 and 2, or in a new one. A deed that is refused where there is memory meets nobody, and its row fails.
+// Does the deed in a map of the keys 1 and 2, or in a new one. A deed that is refused although there is memory meets nobody, and its row
+// fails.
 pub(super) fn does<A: Allocator + Copy, R: Wait>(
     view: &GuestsRef<'_, R, A>,
     deed: Deed,
