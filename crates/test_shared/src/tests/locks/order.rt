@@ -78,6 +78,18 @@ fn ask<A: Allocator + Copy, R: Wait>(rt: &R, locks: &Locks<u64, u64, A>, flags: 
     drop(reply_of(rt, locks, 1, call));
 }
 
+// Waits until a bin of the first table has moved.
+fn wait_for_move<A: Allocator, R: Wait>(rt: &R, locks: &Locks<u64, u64, A>, index: usize) {
+    for _ in 0..TURNS {
+        if let Some(slot) = LockField::new(rt, locks).slot(4, index) {
+            if !slot.read(rt).is_live() {
+                return;
+            }
+        }
+        thread::yield_now();
+    }
+}
+
 // Takes the lock of a bin that is there.
 fn look_at<A: Allocator, R: Wait>(rt: &R, locks: &Locks<u64, u64, A>, table: u8, index: usize) {
     if let Some(slot) = LockField::new(rt, locks).slot(table, index) {
@@ -85,13 +97,21 @@ fn look_at<A: Allocator, R: Wait>(rt: &R, locks: &Locks<u64, u64, A>, table: u8,
     }
 }
 
-// Counts the pairs, once the other threads hold the bin and wait for it, and looks at the halves of the bin in a larger table. A thread
-// that waits for a lock cannot be seen, so this gives it some turns to come there.
-fn count<A: Allocator + Copy, R: Wait>(rt: &R, locks: &Locks<u64, u64, A>, flags: &Flags) {
-    let _ = is_set_in_time(&flags.asks);
+// Gives other threads some turns.
+fn give_turns() {
     for _ in 0..1_000u32 {
         thread::yield_now();
     }
+}
+
+// Counts the pairs, once the other threads hold the bin and wait for it, and looks at the halves of the bin in a larger table. A thread
+// that waits for a lock cannot be seen, so this gives it some turns to come there, once a mover has moved the bin that is next to it.
+fn count<A: Allocator + Copy, R: Wait>(rt: &R, locks: &Locks<u64, u64, A>, flags: &Flags) {
+    let _ = is_set_in_time(&flags.asks);
+    if flags.moves {
+        wait_for_move(rt, locks, 2);
+    }
+    give_turns();
     let _ = LockField::new(rt, locks).len();
     look_at(rt, locks, 5, 1);
     look_at(rt, locks, 5, 17);

@@ -43,7 +43,7 @@ fn wait_there<A: Allocator, R: Wait>(
     match LockField::new(rt, locks).tally(hash) {
         Some((tally, _)) => {
             let tally = tally.lock(rt);
-            tally.is_at_least(pairs) && !tally.is_at_least(pairs + 1)
+            tally.is_at_least(pairs) && !tally.is_at_least(pairs.saturating_add(1))
         }
         None => false,
     }
