@@ -25,8 +25,9 @@ pub(super) enum Deed {
     Remove,
     RemoveSeen,
     Insert,
+    InsertNew,
     TryInsert,
-    Add,
+    TryInsertNew,
     Retain,
     RetainForce,
     Read,
@@ -92,7 +93,11 @@ fn inserts_once<A: Allocator + Copy, R: Wait>(view: &GuestsRef<'_, R, A>, one: G
 }
 
 // Inserts the key 3, which is absent.
-fn adds<A: Allocator + Copy, R: Wait>(view: &GuestsRef<'_, R, A>, value: Guest) {
+fn inserts_new<A: Allocator + Copy, R: Wait>(view: &GuestsRef<'_, R, A>, value: Guest) {
+    drop(view.insert(Guest::new(3), value));
+}
+
+fn inserts_new_once<A: Allocator + Copy, R: Wait>(view: &GuestsRef<'_, R, A>, value: Guest) {
     drop(view.try_insert(Guest::new(3), value));
 }
 
@@ -158,8 +163,9 @@ pub(super) fn does<A: Allocator + Copy, R: Wait>(
         Deed::Remove => removes(view),
         Deed::RemoveSeen => removes_as_read(view),
         Deed::Insert => inserts(view, passed),
+        Deed::InsertNew => inserts_new(view, passed),
         Deed::TryInsert => inserts_once(view, passed),
-        Deed::Add => adds(view, passed),
+        Deed::TryInsertNew => inserts_new_once(view, passed),
         Deed::Retain => retains_none(view),
         Deed::RetainForce => retains_none_by_force(view),
         Deed::Read => reads(view),

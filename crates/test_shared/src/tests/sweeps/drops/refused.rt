@@ -12,14 +12,16 @@ use std::process::Abort;
 use std::sync::Wait;
 use std::thread::Threads;
 
-// Does the deed while no request is granted, and returns whether one was made, and the drop met the calls of the other thread.
+// Does the deed while all requests but the first `granted` ones are refused. Returns whether one was, and the drop met the calls of the
+// other thread.
 fn meets_in<A: Allocator + Copy + Send + Sync, R: Threads + Wait + Sync>(
     metered: &MeteredAlloc<Global>,
     view: &GuestsRef<'_, R, A>,
     deed: Deed,
+    granted: u64,
     meeting: &'static Meeting,
 ) -> bool {
-    metered.refuse_from(0);
+    metered.refuse_from(granted);
     in_two_threads(view, deed, Who::PassedIn, meeting);
     let was_refused = metered.was_refused();
     metered.refuse_nothing();
@@ -30,6 +32,7 @@ fn meets<R: Abort + Threads + Wait + Sync>(
     rt: &R,
     alloc: Global,
     deed: Deed,
+    granted: u64,
     is_new: bool,
 ) -> bool {
     let memory = metered(rt, alloc);
@@ -39,24 +42,30 @@ fn meets<R: Abort + Threads + Wait + Sync>(
     if !is_new {
         fill(view, Who::PassedIn, meeting);
     }
-    meets_in(memory, view, deed, meeting)
+    meets_in(memory, view, deed, granted, meeting)
 }
 
-// A row for each call that drops what it is given, since it has no memory to keep it.
+// A row for each call that drops what it is given, since it has no memory to keep it. An insertion has its value's `Arc` made before it
+// takes a lock. On a map without a table, the table is refused.
 #[test]
 fn calls_without_memory(rt: HostRuntime) {
-    for (deed, is_new) in [
-        (Deed::Insert, false),
-        (Deed::Add, false),
-        (Deed::ComputeHere, false),
-        (Deed::Compute, false),
-        (Deed::Merge, false),
-        (Deed::Update, false),
-        (Deed::ReplaceIf, false),
-        (Deed::Insert, true),
-        (Deed::Add, true),
+    for (deed, granted, is_new) in [
+        (Deed::Insert, 0, false),
+        (Deed::InsertNew, 1, false),
+        (Deed::TryInsertNew, 0, false),
+        (Deed::ComputeHere, 0, false),
+        (Deed::Compute, 0, false),
+        (Deed::Merge, 0, false),
+        (Deed::Update, 0, false),
+        (Deed::ReplaceIf, 0, false),
+        (Deed::InsertNew, 1, true),
+        (Deed::TryInsertNew, 0, true),
     ] {
-        let met = meets(&rt, rt.alloc(), deed, is_new);
-        assert_same(&rt, (deed, is_new, met), (deed, is_new, true));
+        let met = meets(&rt, rt.alloc(), deed, granted, is_new);
+        assert_same(
+            &rt,
+            (deed, granted, is_new, met),
+            (deed, granted, is_new, true),
+        );
     }
 }
