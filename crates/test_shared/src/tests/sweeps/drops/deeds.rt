@@ -73,14 +73,14 @@ fn removes_if<A: Allocator + Copy, R: Wait>(view: &GuestsRef<'_, R, A>, key: u64
     drop(view.remove_if(&Guest::new(key), move |_, _| has_number(&kept)));
 }
 
-// Replaces the value at a key, or drops the new one.
-fn replaces_if<A: Allocator + Copy, R: Wait>(
-    view: &GuestsRef<'_, R, A>,
-    key: u64,
-    passes: bool,
-    new: Guest,
-) {
-    drop(view.replace_if(&Guest::new(key), move |_, _| passes, new));
+// Replaces the value at the key 1, or drops the new one.
+fn replaces_if<A: Allocator + Copy, R: Wait>(view: &GuestsRef<'_, R, A>, passes: bool, new: Guest) {
+    drop(view.replace_if(&Guest::new(1), move |_, _| passes, new));
+}
+
+// Replaces nothing at an absent key, by a function that owns a guest.
+fn replaces_nowhere<A: Allocator + Copy, R: Wait>(view: &GuestsRef<'_, R, A>, kept: Guest) {
+    drop(view.replace_if(&Guest::new(3), move |_, _| has_number(&kept), Guest::new(4)));
 }
 
 // Inserts the key 1, which is present.
@@ -156,9 +156,9 @@ pub(super) fn does<A: Allocator + Copy, R: Wait>(
         Deed::UpdateNowhere => updates(view, 3, passed),
         Deed::RemoveIf => removes_if(view, 1, passed),
         Deed::RemoveNowhere => removes_if(view, 3, passed),
-        Deed::ReplaceIf => replaces_if(view, 1, true, passed),
-        Deed::ReplaceNothing => replaces_if(view, 1, false, passed),
-        Deed::ReplaceNowhere => replaces_if(view, 3, true, passed),
+        Deed::ReplaceIf => replaces_if(view, true, passed),
+        Deed::ReplaceNothing => replaces_if(view, false, passed),
+        Deed::ReplaceNowhere => replaces_nowhere(view, passed),
         Deed::ComputeNowhere => computes_at(view, 3, passed),
         Deed::Remove => removes(view),
         Deed::RemoveSeen => removes_as_read(view),
