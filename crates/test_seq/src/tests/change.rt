@@ -1,5 +1,7 @@
 //! Calls that change a pair by a function. By the bound on it, a function is called at most once.
 
+mod many;
+
 use super::steps::three_pairs;
 use super::{assert_same, assert_same_at, lent, taken};
 use flurry_base::Change;

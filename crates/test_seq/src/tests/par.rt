@@ -5,6 +5,7 @@ mod nothing;
 mod refused;
 
 use super::keys::Tagged;
+use super::steps::list_of;
 use super::{assert_same, lent};
 use flurry_base::hash::{LowHashBuilder, ZeroHashBuilder};
 use flurry_seq::SeqMap;
@@ -84,6 +85,42 @@ fn pairs_into_a_map(rt: HostRuntime) {
         (lent(map.get(&3)), lent(map.get(&199))),
         (Some(4), Some(990)),
     );
+}
+
+// Joins a map of so many new keys to a map of one pair in 16 bins, and returns how many bins and pairs that has then.
+fn after_a_join(rt: &(impl Abort + AllocGlobal), count: u64) -> (usize, usize) {
+    let mut left: Numbers = SeqMap::with_hasher(rt.alloc(), LowHashBuilder);
+    let _ = left.insert(0, 0).expect(rt, "memory");
+    let list = list_of(rt, rt.alloc(), 1, count.saturating_add(1), 1);
+    let right = SeqMap::from_list(rt.alloc(), list, LowHashBuilder).expect(rt, "memory");
+    map::join(&mut left, right).expect(rt, "memory");
+    (left.capacity(), left.len())
+}
+
+// If a map has pairs, there is room for half of those that are joined to it before they come: 16 bins are enough for 4 more, and not for 5.
+#[test]
+fn room_in_a_join(rt: HostRuntime) {
+    assert_same(&rt, after_a_join(&rt, 8), (16, 9));
+    assert_same(&rt, after_a_join(&rt, 9), (32, 10));
+}
+
+// Returns a list of `count` pairs of the key 7.
+fn pairs_of_one_key(rt: &(impl Abort + AllocGlobal), count: u64) -> Vec<(u64, u64)> {
+    let mut list = Vec::new(rt.alloc());
+    for value in 0..count {
+        list.push((7, value)).expect(rt, "memory");
+    }
+    list
+}
+
+// A map that is built has room for as many pairs as the list has, from the start.
+#[test]
+fn room_for_a_list(rt: HostRuntime) {
+    let rt = &rt;
+    let list = pairs_of_one_key(rt, 100);
+    let built = map::from_par_list(rt, rt.alloc(), list, LowHashBuilder, 7).expect(rt, "memory");
+    assert_same(rt, (built.capacity(), built.len()), (256, 1));
+    assert_same(rt, lent(built.get(&7)), Some(99));
 }
 
 // For a class that both maps have, the key of the left map stays, and the value of the right map is stored.

@@ -2,7 +2,9 @@
 
 use super::assert_same;
 use flurry_base::hash::KeyHasher;
+use flurry_seq::SeqMap;
 use flurry_seq_par::{map, set};
+use flurry_seq_set::SeqSet;
 use std::sync::atomic::{AtomicBool, AtomicU64, Ordering};
 use std::thread;
 
@@ -81,4 +83,29 @@ fn elements_at_once(rt: HostRuntime) {
     let built = set::from_par_list(rt, rt.alloc(), list, hasher, 1).expect(rt, "memory");
     assert_same(rt, pair.has_met(), true);
     assert_same(rt, built.len(), 2);
+}
+
+// The pieces by which a map is extended.
+#[test]
+fn pieces_of_an_extension_at_once(rt: HostRuntime) {
+    let rt = &rt;
+    let pair = Pair::new();
+    let hasher = PairHasher { pair: &pair };
+    let mut extended: SeqMap<u64, u64, PairHasher> = SeqMap::with_hasher(rt.alloc(), hasher);
+    let list = Vec::from_array(rt.alloc(), [(0u64, 5u64), (1, 7)]).expect(rt, "memory");
+    map::par_extend(rt, &mut extended, list, 1).expect(rt, "memory");
+    assert_same(rt, pair.has_met(), true);
+    assert_same(rt, extended.len(), 2);
+}
+
+#[test]
+fn elements_of_an_extension_at_once(rt: HostRuntime) {
+    let rt = &rt;
+    let pair = Pair::new();
+    let hasher = PairHasher { pair: &pair };
+    let mut extended: SeqSet<u64, PairHasher> = SeqSet::with_hasher(rt.alloc(), hasher);
+    let list = Vec::from_array(rt.alloc(), [0u64, 1]).expect(rt, "memory");
+    set::par_extend(rt, &mut extended, list, 1).expect(rt, "memory");
+    assert_same(rt, pair.has_met(), true);
+    assert_same(rt, extended.len(), 2);
 }

@@ -1,6 +1,6 @@
 //! Shares that fit their map, and shares that were damaged.
 
-use super::{NumberShare, Numbers, assert_same, ends, reply, share_of};
+use super::{NumberShare, Numbers, assert_same, end_of, ends, reply, share_of};
 use flurry_base::hash::LowHashBuilder;
 use flurry_seq_recorded::CloseFault;
 use std::process::Abort;
@@ -61,6 +61,24 @@ fn three_shares_fit(rt: HostRuntime) {
         [0, 1, 2],
     );
     ends(rt, map, [third, first, second], Ok((4, 1, Some(1))));
+}
+
+// Returns 200 shares of a map, each of which inserted its number at the key 7.
+fn many_shares<R: Wait + Abort + AllocGlobal>(rt: &R, map: &Numbers) -> Vec<NumberShare> {
+    let mut shares = Vec::new(rt.alloc());
+    for number in 0..200u64 {
+        let mut share = share_of(rt, map);
+        insert(rt, map, &mut share, number, number.checked_sub(1));
+        shares.push(share).expect(rt, "memory for the shares");
+    }
+    shares
+}
+
+#[test]
+fn many_shares_fit(rt: HostRuntime) {
+    let map = Numbers::with_hasher(rt.alloc(), LowHashBuilder);
+    let shares = many_shares(&rt, &map);
+    assert_same(&rt, end_of(map, shares), Ok((200, 1, Some(199))));
 }
 
 #[test]

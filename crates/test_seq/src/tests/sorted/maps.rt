@@ -1,6 +1,7 @@
 //! Maps as lists of pairs, and back.
 ghost use Rattle.std.specs.Prelude.{◌≡◌, IfOk};
 
+use super::super::steps::list_of;
 use super::{assert_same, five, map_of};
 use flurry_base::hash::LowHashBuilder;
 use flurry_seq::SeqMap;
@@ -71,6 +72,19 @@ fn a_hundred_pairs(rt: HostRuntime) {
     }
     let map = from_pairs(SortedPairs(hundred(rt, 50, 50)), LowHashBuilder);
     assert_same(rt, map.map(|map| map.len()).ok(), Some(100));
+}
+
+#[test]
+fn many_pairs_there_and_back(rt: HostRuntime) {
+    let rt = &rt;
+    let made = from_pairs(
+        SortedPairs(list_of(rt, rt.alloc(), 0, 2000, 3)),
+        LowHashBuilder,
+    );
+    let map = made.expect(rt, "memory for the map");
+    assert_same(rt, (map.capacity(), map.len()), (4096, 2000));
+    let list = listed(&map).expect(rt, "memory for the list");
+    assert_same(rt, list.0 == list_of(rt, rt.alloc(), 0, 2000, 3), true);
 }
 
 #[test]

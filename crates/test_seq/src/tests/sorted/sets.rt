@@ -33,3 +33,21 @@ fn an_element_that_comes_twice(rt: HostRuntime) {
     let list = listed(&set).expect(rt, "memory for the list");
     assert_same(rt, list, list_of(rt, [1, 2]));
 }
+
+// Returns a list of the numbers below 2,000.
+fn many(rt: &(impl Abort + AllocGlobal)) -> Vec<u64> {
+    let mut list = Vec::new(rt.alloc());
+    for number in 0..2000u64 {
+        list.push(number).expect(rt, "memory for the list");
+    }
+    list
+}
+
+#[test]
+fn many_elements_there_and_back(rt: HostRuntime) {
+    let rt = &rt;
+    let set = from_items(SortedItems(many(rt)), LowHashBuilder).expect(rt, "memory for the set");
+    assert_same(rt, set.len(), 2000);
+    let list = listed(&set).expect(rt, "memory for the list");
+    assert_same(rt, list.0 == many(rt), true);
+}
