@@ -63,9 +63,9 @@ fn print_len<W: Sink>(length: Option<usize>, writer: &mut W) -> io::Result<u8>
     }
 }
 
-// Inserts `keys` keys in each of `threads` threads into a map, and returns the number of keys that it then has. Returns `None` if memory
-// for a key could not be allocated.
-fn fill<
+/// Inserts `keys` keys in each of `threads` threads into a map, by [`insert_in_threads`], and returns the number of keys that it then has.
+/// Returns `None` if memory for a key cannot be allocated.
+pub fn fill<
     S: KeyHasher<u64> + Sync + Drop,
     R: Threads + Wait + Sync,
     A: Allocator + Copy + Send + Sync,

@@ -3,7 +3,7 @@
 use super::{assert_same, output, tells_usage};
 use flurry_base::hash::KeyHasher;
 use flurry_run_words::run_words;
-use flurry_run_words::threads::insert_in_threads;
+use flurry_run_words::threads::{fill, insert_in_threads};
 use flurry_shared::HashMap;
 use std::process::Abort;
 use std::sync::Wait;
@@ -22,6 +22,13 @@ struct Crowd {
 }
 
 impl Crowd {
+    fn new() -> Self {
+        Crowd {
+            begun: AtomicU64::new(0),
+            missed: AtomicBool::new(false),
+        }
+    }
+
     // Says that a hash has begun, and waits until three have.
     fn begin(&self) {
         self.begun.fetch_add(1, Ordering::SeqCst);
@@ -58,13 +65,20 @@ impl<'m> KeyHasher<u64> for CrowdHasher<'m> {
 #[test]
 fn three_threads_at_once(rt: HostRuntime) {
     let rt = &rt;
-    let crowd = Crowd {
-        begun: AtomicU64::new(0),
-        missed: AtomicBool::new(false),
-    };
+    let crowd = Crowd::new();
     let map = HashMap::with_hasher(rt.alloc(), CrowdHasher { crowd: &crowd });
     assert_same(rt, insert_in_threads(rt, &map, 3, 1), true);
     assert_same(rt, map.len(rt), 3);
+    assert_same(rt, crowd.missed.load(Ordering::SeqCst), false);
+}
+
+// The same by the function that the program calls.
+#[test]
+fn a_map_is_filled_by_three_threads(rt: HostRuntime) {
+    let rt = &rt;
+    let crowd = Crowd::new();
+    let map = HashMap::with_hasher(rt.alloc(), CrowdHasher { crowd: &crowd });
+    assert_same(rt, fill(rt, map, 3, 1), Some(3));
     assert_same(rt, crowd.missed.load(Ordering::SeqCst), false);
 }
 
