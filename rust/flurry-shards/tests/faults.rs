@@ -45,13 +45,15 @@ fn too_many_locks() {
     assert!(numbers::SharedMap::new(0).is_ok_and(|map| map.is_empty()));
 }
 
-/// Runs `update_without_memory` in a process of its own, which may use 1 GB of addresses.
+/// Runs each test that wants little memory in a process of its own, which may use 1 GB of addresses.
 #[test]
 fn with_little_memory() {
-    let words = "ulimit -v 1000000 && exec \"$0\" --ignored --exact update_without_memory --test-threads 1";
-    let child = Command::new("sh").args(["-c", words]).arg(env::current_exe().unwrap()).output().unwrap();
-    let said = String::from_utf8_lossy(&child.stdout);
-    assert!(child.status.success() && said.contains("1 passed"), "{said}");
+    for name in ["update_without_memory", "more_room_than_memory", "dropped_maps_are_freed"] {
+        let words = "ulimit -v 1000000 && exec \"$0\" --ignored --exact \"$1\" --test-threads 1";
+        let child = Command::new("sh").args(["-c", words]).arg(env::current_exe().unwrap()).arg(name).output().unwrap();
+        let said = String::from_utf8_lossy(&child.stdout);
+        assert!(child.status.success() && said.contains("1 passed"), "{said}");
+    }
 }
 
 /// The function of `update` has run when memory for what it returned cannot be allocated, and the map is unchanged.
@@ -71,5 +73,35 @@ fn update_without_memory() -> Result<(), OutOfMemory> {
     assert_eq!(ran, 2);
     assert_eq!((owned.get(b"key").as_deref(), owned.len()), (Some(&b"old"[..]), 1));
     assert_eq!((shared.get(b"key").as_deref(), shared.len()), (Some(&b"old"[..]), 1));
+    Ok(())
+}
+
+/// Room for which there is no memory is refused, in a map with a table and in one without, and the pairs stay.
+#[test]
+#[ignore = "with_little_memory runs it"]
+fn more_room_than_memory() -> Result<(), OutOfMemory> {
+    let (mut numbers, mut texts) = (numbers::OwnedMap::new()?, bytes::OwnedMap::new()?);
+    for room in [usize::MAX, 1 << 40, 100_000_000] {
+        assert_eq!(numbers.reserve(room), Err(OutOfMemory));
+        assert_eq!(texts.reserve(room), Err(OutOfMemory));
+        numbers.insert(7, 1)?;
+        texts.insert(b"key", b"value")?;
+    }
+    assert_eq!((numbers.get(7), numbers.len()), (Some(1), 1));
+    assert_eq!((texts.get(b"key").as_deref(), texts.len()), (Some(&b"value"[..]), 1));
+    Ok(())
+}
+
+/// What a map keeps is given back when it is dropped: one after another, 60 maps of 20 MB or more have room.
+#[test]
+#[ignore = "with_little_memory runs it"]
+fn dropped_maps_are_freed() -> Result<(), OutOfMemory> {
+    let value = vec![7; 20_000_000];
+    for _ in 0..60 {
+        numbers::OwnedMap::new()?.reserve(400_000)?;
+        bytes::OwnedMap::new()?.reserve(400_000)?;
+        bytes::OwnedMap::new()?.insert(b"key", &value)?;
+        bytes::SharedMap::new(4)?.insert(b"key", &value)?;
+    }
     Ok(())
 }
