@@ -93,8 +93,8 @@ flurry_status flurry_words_remove(flurry_words *words, uint64_t key, uint64_t *o
 /* Removes all pairs. The map keeps the memory of its table. */
 void flurry_words_clear(flurry_words *words);
 
-/* Makes room in the table for so many more pairs, and says FLURRY_DONE; or FLURRY_NO_MEMORY, if memory for a table cannot be allocated, and
- * the table is as it was, or was made or doubled some times on the way. The pairs stay. An insertion still allocates for its pair. */
+/* Makes room in the table for so many more pairs, and says FLURRY_DONE; or FLURRY_NO_MEMORY, if memory for that table cannot be allocated,
+ * and nothing changed. A table has at most 2^30 bins, whatever is asked for. The pairs stay. An insertion still allocates for its pair. */
 flurry_status flurry_words_reserve(flurry_words *words, size_t additional);
 
 /* Writes all pairs, each once, in no order that is promised, to the first places of `pairs`, which has `len` places, and says FLURRY_DONE.
@@ -190,9 +190,9 @@ flurry_status flurry_word_set_remove(flurry_word_set *set, uint64_t element);
 /* Removes all elements. The set keeps the memory of its table. */
 void flurry_word_set_clear(flurry_word_set *set);
 
-/* Makes room in the table for so many more elements, and says FLURRY_DONE; or FLURRY_NO_MEMORY, if memory for a table cannot be allocated,
- * and the table is as it was, or was made or doubled some times on the way. The elements stay. An insertion still allocates for its
- * element. */
+/* Makes room in the table for so many more elements, and says FLURRY_DONE; or FLURRY_NO_MEMORY, if memory for that table cannot be
+ * allocated, and nothing changed. A table has at most 2^30 bins, whatever is asked for. The elements stay. An insertion still allocates for
+ * its element. */
 flurry_status flurry_word_set_reserve(flurry_word_set *set, size_t additional);
 
 /* Writes all elements, each once, in no order that is promised, to the first places of `elements`, which has `len` places, and says

@@ -5,9 +5,9 @@
 #   foreign.sh [--built]   --built proves nothing: without a library of these sources nothing is tried, which is said, and the status is 3
 #
 # In C: the names in the header; the example of README, also as C++; and, under the address sanitizer, calls of which each request for
-# memory is refused in turn, random calls of maps and of sets beside arrays, and calls of many pairs and of long strings. The sanitizer
-# sees the blocks of the archive and what the archive passes to the C library; its own reads and writes are not instrumented. In Rust: the
-# tests of rust/flurry-shards and the examples in its comments.
+# memory is refused in turn, random calls of maps and of sets beside arrays, many pairs and long strings, and room for more than there is
+# memory. The sanitizer sees the blocks of the archive and what the archive passes to the C library; its own reads and writes are not
+# instrumented. In Rust: the tests of rust/flurry-shards and the examples in its comments.
 # (the sourced script has a `room` of its own, in a subshell)
 # shellcheck disable=SC2030,SC2031
 set -euo pipefail
@@ -91,5 +91,6 @@ try_test refused
 try_test maps
 try_test sets
 try_test large
+try_test limit
 try_rust
 exit "$status"

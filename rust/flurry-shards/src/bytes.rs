@@ -95,11 +95,11 @@ impl OwnedMap {
         self.0.clear();
     }
 
-    /// Makes room in the table for `additional` more pairs.
+    /// Makes room in the table for `additional` more pairs. A table has at most 2^30 bins, whatever is asked for.
     ///
     /// # Errors
     ///
-    /// Returns [`OutOfMemory`] if memory for a table cannot be allocated. The pairs stay, and the table may have grown on the way.
+    /// Returns [`OutOfMemory`] if memory for that table cannot be allocated. The map is unchanged.
     pub fn reserve(&mut self, additional: usize) -> Result<(), OutOfMemory> {
         self.0.reserve(additional)
     }
