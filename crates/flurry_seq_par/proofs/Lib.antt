@@ -1,3 +1,4 @@
 pub mod Elements
 pub mod Fronts
 pub mod Joining
+pub mod Rooms

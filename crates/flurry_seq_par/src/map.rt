@@ -1,8 +1,9 @@
 //! The owned map, built in parallel, and joined.
-ghost use Rattle.std.specs.Prelude.{◌≡◌, [], IfOk, OnOk, OnErr, map};
+ghost use Rattle.std.specs.Prelude.{◌≡◌, [], ◌≤◌, ◌+◌, ℕ, length, IfOk, OnOk, OnErr, map, flat_map};
 ghost use Rattle.flurry_bins.specs.Bin.{entries_of_list};
 ghost use Rattle.flurry_base.specs.FiniteMap.{IsFiniteMap, with_all};
 ghost use Rattle.flurry_seq_par.specs.Joins.{HasFrontOf, HasSomeOf, pairs_in, pairs_of_bins, with_maps};
+ghost use Rattle.flurry_seq.specs.Growth.{bins_for, IsTableFrom, HasRoom};
 ghost use Rattle.flurry_seq.specs.Numbers.{BearZero, BinsBearZero};
 
 use crate::pieces::pieces;
@@ -52,6 +53,10 @@ fn join_bins<K: Ord + Drop, V: Drop, S: KeyHasher<K>, A: Allocator + Copy>(
     ensures ok { OnOk result (left.new.pairs ≡ with_all K.cmp left.old.pairs (pairs_of_bins bins.items)) }
     ensures hasher { left.new.hasher ≡ left.old.hasher }
     ensures err { OnErr result (HasFrontOf K.cmp left.old.pairs (pairs_of_bins bins.items) left.new.pairs) }
+    ensures few { OnOk result (length left.new.pairs ≤ length left.old.pairs + length (pairs_of_bins bins.items)) }
+    ensures room { (n : ℕ) → HasRoom n (length left.old.pairs + length (pairs_of_bins bins.items))
+        → IsTableFrom n (length left.old.pairs) left.old.bins
+        → OnOk result (IsTableFrom n (length left.new.pairs) left.new.bins) }
 {
     for bin in bins {
         join_list(left, bin.into_list())?;
@@ -68,6 +73,11 @@ fn join_list<K: Ord + Drop, V: Drop, S: KeyHasher<K>, A: Allocator + Copy>(
     ensures ok { OnOk result (left.new.pairs ≡ with_all K.cmp left.old.pairs (pairs_in (entries_of_list list))) }
     ensures hasher { left.new.hasher ≡ left.old.hasher }
     ensures err { OnErr result (HasFrontOf K.cmp left.old.pairs (pairs_in (entries_of_list list)) left.new.pairs) }
+    ensures few { OnOk result
+        (length left.new.pairs ≤ length left.old.pairs + length (pairs_in (entries_of_list list))) }
+    ensures room { (n : ℕ) → HasRoom n (length left.old.pairs + length (pairs_in (entries_of_list list)))
+        → IsTableFrom n (length left.old.pairs) left.old.bins
+        → OnOk result (IsTableFrom n (length left.new.pairs) left.new.bins) }
 {
     let mut rest = list;
     while let Some(node) = rest.pop_front() {
@@ -76,24 +86,29 @@ fn join_list<K: Ord + Drop, V: Drop, S: KeyHasher<K>, A: Allocator + Copy>(
     Ok(())
 }
 
-// The maps, joined in order, as one map that uses `hasher` and starts with room for `count` pairs.
+// The maps, joined in order, as one map that uses `hasher` and starts with room for `count` pairs. No other room is made.
 fn join_all<K: Ord + Drop, V: Drop, S: KeyHasher<K> + Drop, A: Allocator + Copy>(
     alloc: A,
     maps: Vec<SeqMap<K, V, S, A>, A>,
     count: usize,
     hasher: S,
 ) -> Result<SeqMap<K, V, S, A>, AllocError>
-    ensures { IfOk result (λ m. (m.pairs ≡ with_maps K.cmp [] (map (λ n. n.pairs) maps.items)) × (m.hasher ≡ hasher)) }
+    ensures made { IfOk result
+        (λ m. (m.pairs ≡ with_maps K.cmp [] (map (λ n. n.pairs) maps.items)) × (m.hasher ≡ hasher)) }
+    ensures bins { length (flat_map (λ n. n.pairs) maps.items) ≤ count
+        → IfOk result (λ m. IsTableFrom (bins_for count) (length m.pairs) m.bins) }
 {
     let mut all = SeqMap::with_capacity_and_hasher(alloc, count, hasher)?;
     for map in maps {
-        join(&mut all, map)?;
+        let (bins, _) = map.into_bins();
+        join_bins(&mut all, bins)?;
     }
     Ok(all)
 }
 
 /// Creates a map that uses `hasher` from the pairs of `list`, as [`SeqMap::from_list`] does, but in parallel: `rayon`'s workers build maps
-/// of pieces of the list, of `part` pairs each, which are then joined. A `part` of `0` means 1. Each worker has a copy of the hasher.
+/// of pieces of the list, of `part` pairs each, which are then joined. A `part` of `0` means 1. Each worker has a copy of the hasher. The
+/// resulting map starts with room for as many pairs as the list has.
 ///
 /// Each pair is moved to its piece, inserted by a worker, and inserted once more when the maps are joined. Takes memory for the pieces, for
 /// their maps, and for the table of the resulting map.
@@ -115,6 +130,7 @@ pub fn from_par_list<
 ) -> Result<SeqMap<K, V, S, A>, AllocError>
     ensures made { IfOk result (λ m. (m.pairs ≡ with_all K.cmp [] list.items) × (m.hasher ≡ hasher)) }
     ensures ascend { IfOk result (λ m. IsFiniteMap K.cmp m.pairs) }
+    ensures bins { IfOk result (λ m. IsTableFrom (bins_for (length list.items)) (length m.pairs) m.bins) }
 {
     let count = list.len();
     let maps = pieces(alloc, list, part)?

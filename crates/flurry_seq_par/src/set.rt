@@ -1,8 +1,9 @@
 //! The owned set, built in parallel.
-ghost use Rattle.std.specs.Prelude.{◌≡◌, [], IfOk, OnOk, OnErr, map};
+ghost use Rattle.std.specs.Prelude.{◌≡◌, [], length, IfOk, OnOk, OnErr, map};
 ghost use Rattle.flurry_bins.specs.Bin.{entries_of_list};
 ghost use Rattle.flurry_base.specs.FiniteSet.{IsFiniteSet, with_elements};
 ghost use Rattle.flurry_seq_par.specs.Joins.{HasFirstOf, HasAnyOf, elements_of_list, elements_of_bins, with_unit};
+ghost use Rattle.flurry_seq.specs.Growth.{bins_for, IsTableFrom};
 ghost use Rattle.flurry_seq.specs.Numbers.{BearZero, BinsBearZero};
 
 use crate::map;
@@ -45,6 +46,7 @@ pub fn from_par_list<
 ) -> Result<SeqSet<T, S, A>, AllocError>
     ensures made { IfOk result (λ s. (s.elements ≡ with_elements T.cmp [] list.items) × (s.hasher ≡ hasher)) }
     ensures ascend { IfOk result (λ s. IsFiniteSet T.cmp s.elements) }
+    ensures bins { IfOk result (λ s. IsTableFrom (bins_for (length list.items)) (length s.elements) s.bins) }
 {
     let pairs = as_pairs(alloc, list)?;
     let map = map::from_par_list(rt, alloc, pairs, hasher, part)?;

@@ -71,6 +71,26 @@ fn a_hundred_pairs(rt: HostRuntime) {
     );
 }
 
+// As of `from_list`, five pairs have 8 bins, and a hundred have 256, however long the pieces are.
+#[test]
+fn bins_of_what_is_built(rt: HostRuntime) {
+    let rt = &rt;
+    for part in [1, 2, 5, 100] {
+        let mut list = Vec::new(rt.alloc());
+        for key in 0..5u64 {
+            list.push((key, key)).expect(rt, "memory");
+        }
+        let five = map::from_par_list(rt, rt.alloc(), list, LowHashBuilder, part).expect(
+            rt, "memory",
+        );
+        assert_same(rt, five.capacity(), 8);
+        let hundred = map::from_par_list(rt, rt.alloc(), pairs(rt), LowHashBuilder, part).expect(
+            rt, "memory",
+        );
+        assert_same(rt, hundred.capacity(), 256);
+    }
+}
+
 #[test]
 fn pairs_into_a_map(rt: HostRuntime) {
     let rt = &rt;
