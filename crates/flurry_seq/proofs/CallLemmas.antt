@@ -1,5 +1,5 @@
 -- Calls as values.
-use Rattle.std.proofs.Common.{◌≡◌, [], Option, Some, None, Result, Ok, Err, option_map, refl, inl, ap, Ordering}
+use Rattle.std.proofs.Common.{◌≡◌, [], Option, Some, None, Result, Ok, Err, option_map, refl, ap, Ordering}
 use Rattle.std.specs.Option.{MatchOption, IfSome}
 use Rattle.std.specs.Prelude.{IsSome}
 use Rattle.std.specs.Result.{IsOkAnd, IsErrAnd}
@@ -92,7 +92,7 @@ module _ {K V A S F : Type 0} (cmp : K → K → Ordering) (gives : F → K → 
 
 module _ {K V A S F P : Type 0} (cmp : K → K → Ordering) where
   pub same_refused : (call : Call K V S F P A) (m : Contents K V S) → CallRefused cmp call m m
-  same_refused (Reserve a) m = ((refl, refl), inl refl)
+  same_refused (Reserve a) m = refl
   same_refused (Extend list) m = ([], list.items, refl, refl, refl)
   same_refused (Get k) m = refl
   same_refused (GetKeyValue k) m = refl

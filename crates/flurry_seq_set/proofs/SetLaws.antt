@@ -1,5 +1,5 @@
 -- A set is the keys of a map.
-use Rattle.std.proofs.Common.{◌+◌, ◌≤◌, length, arith, ◌≡◌, ℕ, Bool, true, false, cond, not, ◌&&◌, List, [], ◌∷◌, ◌++◌, Option, Some, None, is_some, option_map, Result, Ok, Err, refl, inl, sym, ap, ◌∙◌, Ordering, Less, Equal, Greater}
+use Rattle.std.proofs.Common.{◌+◌, ◌≤◌, length, arith, ◌≡◌, ℕ, Bool, true, false, cond, not, ◌&&◌, List, [], ◌∷◌, ◌++◌, Option, Some, None, is_some, option_map, Result, Ok, Err, refl, sym, ap, ◌∙◌, Ordering, Less, Equal, Greater}
 use Rattle.std.specs.Prelude.{IsTrue, IsSome, ◌↔◌, ◌==◌, is_none, is_ok, if◌then◌else◌}
 use Rattle.std.specs.Borrow.{Bor}
 use Rattle.std.specs.Ordering.{is_eq, eq_by_cmp}
@@ -252,7 +252,7 @@ same_set_refused cmp (IsSuperset other) s = refl
 same_set_refused cmp (Equals other) s = refl
 same_set_refused cmp TryClone s = refl
 same_set_refused cmp Clear s = refl
-same_set_refused cmp (Reserve a) s = ((refl, refl), inl refl)
+same_set_refused cmp (Reserve a) s = refl
 
 pub set_of_elements-keys : {K V : Type 0} {cmp : K → K → Ordering} (o : IsTotalOrder cmp) (ps : List (K × V)) → set_of_elements cmp (keys_of ps) ≡ keys_of (map_of_pairs cmp ps)
 set_of_elements-keys o [] = refl

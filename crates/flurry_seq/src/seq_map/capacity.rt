@@ -1,7 +1,7 @@
 //! The table of an owned map: how it is made, and how it grows.
-ghost use Rattle.std.specs.Prelude.{◌≡◌, ◌⊎◌, [], ◌<◌, ◌≤◌, ◌+◌, ◌*◌, ◌^◌, length, OnOk, OnErr, IfOk, IsTrue, ◌==◌, if◌then◌else◌};
+ghost use Rattle.std.specs.Prelude.{◌≡◌, [], ◌<◌, ◌≤◌, ◌+◌, ◌*◌, ◌^◌, length, OnOk, OnErr, IfOk, IsTrue, ◌==◌, if◌then◌else◌};
 ghost use Rattle.flurry_base.specs.FiniteMap.{IsFiniteMap};
-ghost use Rattle.flurry_base.specs.Sizes.{wanted_of, threshold_of, IsOnTheWay, IsGrown};
+ghost use Rattle.flurry_base.specs.Sizes.{wanted_of, IsOnTheWay, IsGrown};
 ghost use Rattle.flurry_seq.specs.Growth.{IsTableAfter};
 ghost use Rattle.flurry_seq.specs.Invariant.{IsTableSize};
 ghost use Rattle.flurry_seq.specs.Contents.{contents, SamePairs, asked_for, first_bins};

@@ -1,5 +1,5 @@
 use denote.Param.Send.{sendable}
-use Rattle.std.proofs.Common.{◌≡◌, ◌≤◌, [], map, length, ap, sym, ◌∙◌, subst, flat_map, vec_items, arith}
+use Rattle.std.proofs.Common.{◌≡◌, [], map, length, ap, sym, ◌∙◌, subst, flat_map, vec_items, arith}
 use Rattle.std.proofs.CrossingOver.{crosses}
 use Rattle.rayon.proofs.ListFacts.{IfOk-then}
 use Rattle.rayon.specs.Lists.{vec_items as source_items}

@@ -1,4 +1,4 @@
-use Rattle.std.proofs.Common.{◌≡◌, ◌<◌, ◌∙◌, length, ap, sym}
+use Rattle.std.proofs.Common.{◌<◌, ◌∙◌, length, ap, sym}
 use Rattle.flurry_base.specs.FiniteMap.{map_of_pairs}
 use Rattle.flurry_seq.specs.Contents.{contents}
 use Rattle.flurry_seq.specs.Table.{all_pairs}

@@ -1,5 +1,4 @@
-use Rattle.std.proofs.Common.{◌≡◌, ◌<◌, inr, subst, sym, arith, refl}
-use Rattle.flurry_base.specs.Sizes.{wanted_of, IsGrown}
+use Rattle.std.proofs.Common.{◌<◌, inr, subst, sym}
 use Rattle.flurry_seq.specs.Invariant.{IsTableSize}
 use Rattle.flurry_seq.proofs.GrowthLemmas.{wanted_size, wanted_some}
 use Rattle.flurry_seq.proofs.seq_map.SeqMap.reserve.Goals as goal
