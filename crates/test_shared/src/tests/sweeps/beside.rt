@@ -13,6 +13,9 @@ use std::thread::Threads;
 // The number of keys that are present before the threads start.
 const STANDING: usize = 1000;
 
+// The first key of the second thread that inserts.
+const SECOND: u64 = 11_000;
+
 // The number of keys that are counted.
 const COUNTED: usize = 21_000;
 
@@ -25,9 +28,11 @@ enum Work {
     Remove(u64, u64),
     // Looks up the keys from the first number to the second, without the second.
     Look(u64, u64),
-    // Walks this number of times, and fails if a walk does not give each of the earlier keys once, or gives another key twice.
+    // Walks this number of times, and fails if a walk does not give each of the keys once that were inserted before it began, or gives another
+    // key twice.
     Walk(u32),
-    // Visits all pairs this number of times, and fails if a visit does not count each of the earlier keys once.
+    // Visits all pairs this number of times, and fails if a visit does not count each of the keys once that the first inserting thread, or
+    // nobody, inserted before it began.
     Visit(u32),
     // Keeps the even keys.
     KeepEven,
@@ -85,7 +90,31 @@ fn look_all<S: KeyHasher<u64>, A: Allocator + Copy, R: Wait>(
     others
 }
 
-// Walks `times` times, and returns how many keys were given otherwise than `walk_once` says.
+// Returns how far the keys from `from` on have come, where a thread inserts them in ascending order and none is removed: all below the key
+// that is returned were present.
+fn reached<S: KeyHasher<u64>, A: Allocator + Copy, R: Wait>(
+    rt: &R,
+    map: &HashMap<u64, u64, S, A>,
+    from: u64,
+    to: u64,
+) -> u64 {
+    let mut present = from;
+    let mut absent = to;
+    for _ in 0..64 {
+        if absent <= present {
+            break;
+        }
+        let middle = present.saturating_add(absent.saturating_sub(present) / 2);
+        if map.contains_key(rt, &middle) {
+            present = middle.saturating_add(1);
+        } else {
+            absent = middle;
+        }
+    }
+    present
+}
+
+// Walks `times` times, and returns how many keys were given otherwise than `walk_once` says, by what was inserted when each walk began.
 fn walk_often<S: KeyHasher<u64>, A: Allocator + Copy, R: Wait>(
     rt: &R,
     map: &HashMap<u64, u64, S, A>,
@@ -93,12 +122,15 @@ fn walk_often<S: KeyHasher<u64>, A: Allocator + Copy, R: Wait>(
 ) -> u64 {
     let mut failed = 0u64;
     for _ in 0..times {
-        failed = failed.saturating_add(walk_once(rt, map));
+        let first = reached(rt, map, STANDING as u64, SECOND);
+        let second = reached(rt, map, SECOND, COUNTED as u64);
+        failed = failed.saturating_add(walk_once(rt, map, first, second));
     }
     failed
 }
 
-// Visits all pairs `times` times, by one call after another, and returns how many of the earlier keys were counted too often or not at all.
+// Visits all pairs `times` times, by one call after another, and returns how many of the keys that were there before were counted too often or
+// not at all.
 fn visit_often<S: KeyHasher<u64>, A: Allocator + Copy, R: Wait>(
     rt: &R,
     map: &HashMap<u64, u64, S, A>,
@@ -106,33 +138,36 @@ fn visit_often<S: KeyHasher<u64>, A: Allocator + Copy, R: Wait>(
 ) -> u64 {
     let mut failed = 0u64;
     for time in 0..times {
+        let end = reached(rt, map, STANDING as u64, SECOND);
         let counted = match time % 3 {
-            0 => count_by_fold(rt, map),
-            1 => count_by_for_each(rt, map),
-            _ => count_by_any(rt, map),
+            0 => count_by_fold(rt, map, end),
+            1 => count_by_for_each(rt, map, end),
+            _ => count_by_any(rt, map, end),
         };
-        failed = failed.saturating_add(counted.unwrap_or(0).abs_diff(STANDING as u64));
+        failed = failed.saturating_add(counted.unwrap_or(0).abs_diff(end));
     }
     failed
 }
 
-// Counts the earlier keys.
+// Counts the keys below `end`.
 fn count_by_fold<S: KeyHasher<u64>, A: Allocator + Copy, R: Wait>(
     rt: &R,
     map: &HashMap<u64, u64, S, A>,
+    end: u64,
 ) -> Result<u64, AllocError> {
     map.fold(rt, 0, |count: u64, key: &u64, _value: &u64| -> u64 {
-        count.saturating_add(u64::from(*key < STANDING as u64))
+        count.saturating_add(u64::from(*key < end))
     })
 }
 
 fn count_by_for_each<S: KeyHasher<u64>, A: Allocator + Copy, R: Wait>(
     rt: &R,
     map: &HashMap<u64, u64, S, A>,
+    end: u64,
 ) -> Result<u64, AllocError> {
     let mut count = 0u64;
     map.for_each(rt, |key: &u64, _value: &u64| {
-        count = count.saturating_add(u64::from(*key < STANDING as u64));
+        count = count.saturating_add(u64::from(*key < end));
     })?;
     Ok(count)
 }
@@ -141,27 +176,37 @@ fn count_by_for_each<S: KeyHasher<u64>, A: Allocator + Copy, R: Wait>(
 fn count_by_any<S: KeyHasher<u64>, A: Allocator + Copy, R: Wait>(
     rt: &R,
     map: &HashMap<u64, u64, S, A>,
+    end: u64,
 ) -> Result<u64, AllocError> {
     let mut count = 0u64;
     map.any(rt, |key: &u64, _value: &u64| -> bool {
-        count = count.saturating_add(u64::from(*key < STANDING as u64));
+        count = count.saturating_add(u64::from(*key < end));
         false
     })?;
     Ok(count)
 }
 
-// Returns how many of the earlier keys one walk does not give once, and how many other keys it gives more than once.
+// Returns how many keys one walk does not give once of those below `first`, and of those from `SECOND` on that are below `second`, and how
+// many other keys it gives more than once.
 fn walk_once<S: KeyHasher<u64>, A: Allocator + Copy, R: Wait>(
     rt: &R,
     map: &HashMap<u64, u64, S, A>,
+    first: u64,
+    second: u64,
 ) -> u64 {
     let mut given = [0u8; COUNTED];
     let mut keys = map.keys(rt);
     count_given(&mut keys, &mut given);
     drop(keys);
-    let earlier = given.iter().take(STANDING).filter(|times| **times != 1);
-    let others = given.iter().skip(STANDING).filter(|times| **times > 1);
-    (earlier.count() as u64).saturating_add(others.count() as u64)
+    let mut failed = 0u64;
+    for (key, times) in given.iter().enumerate() {
+        let key = key as u64;
+        let stood = key < first || SECOND <= key && key < second;
+        if *times > 1 || stood && *times == 0 {
+            failed = failed.saturating_add(1);
+        }
+    }
+    failed
 }
 
 // Counts how often a walk gives each key.
@@ -198,15 +243,15 @@ fn work_in_threads<
     failures.load(Ordering::SeqCst)
 }
 
-// Each walk and each visit gives each key that was present before it started once, while the table is doubled several times. No walk gives a
-// key twice.
+// Each walk and each visit gives each key once that was present before it started, also one that was inserted beside an earlier walk, while
+// the table is doubled several times. No walk gives a key twice.
 #[test]
 fn walks_beside_insertions(rt: HostRuntime) {
     let rt = &rt;
     let map = &numbers(rt, rt.alloc(), STANDING as u64).with_processors(4);
     let works = [
-        Work::Insert(1000, 11_000),
-        Work::Insert(11_000, 21_000),
+        Work::Insert(1000, SECOND),
+        Work::Insert(SECOND, 21_000),
         Work::Walk(2),
         Work::Walk(2),
         Work::Walk(2),
@@ -216,7 +261,7 @@ fn walks_beside_insertions(rt: HostRuntime) {
     assert_same(rt, work_in_threads(rt, map, &works), 0);
 
     assert_same(rt, map.len(rt), 21_000);
-    assert_same(rt, walk_once(rt, map), 0);
+    assert_same(rt, walk_once(rt, map, SECOND, 21_000), 0);
 }
 
 // After all threads have ended, the count is that of the pairs that a walk gives.
@@ -266,7 +311,7 @@ fn a_retain_beside_insertions(rt: HostRuntime) {
 
     assert_same(rt, work_in_threads(rt, map, &works), 0);
 
-    assert_same(rt, walk_once(rt, map), 500);
+    assert_same(rt, walk_once(rt, map, STANDING as u64, SECOND), 500);
     map.retain(rt, |key, _| *key % 2 == 0).expect(rt, "memory");
     assert_same(rt, map.len(rt), 2500);
     assert_same(
