@@ -1,10 +1,11 @@
 //! The shared set.
-ghost use Rattle.std.specs.Prelude.{◌≡◌, IfOk};
+ghost use Rattle.std.specs.Prelude.{◌≡◌, IfOk, OnOk, true};
 ghost use Rattle.flurry_shared_view.specs.SharedAnswers.{IsAnswerOf, contains_answer, ended_answer, or_refused};
+ghost use Rattle.flurry_shared_view.specs.Visits.{FoldsWalk, LooksUpEqual, RemovesSeen};
 ghost use Rattle.flurry_shared_view.specs.Walks.{Begins};
 ghost use Rattle.flurry_base.specs.Hashing.{seed_of};
 ghost use Rattle.flurry_base.specs.declared.call.Call.TheVariants.{GetKeyValue, ContainsKey, TryInsert, Remove, RemoveEntry, Reserve, Clear};
-ghost use Rattle.flurry_shared_set.specs.ElementAnswers.{element_answer, inserted_answer, removed_answer};
+ghost use Rattle.flurry_shared_set.specs.ElementAnswers.{KeepsOrRemovesElement, element_answer, inserted_answer, removed_answer};
 
 use crate::HashSetRef;
 use flurry_base::hash::{DefaultHashBuilder, KeyHasher};
@@ -331,8 +332,11 @@ impl<T: Ord + Drop, S: KeyHasher<T>, A: Allocator + Copy> HashSet<T, S, A> {
     /// # Errors
     ///
     /// Returns [`AllocError`] if cloning an `Arc` fails.
-    // While other threads write, the result does not describe any one moment.
-    pub fn equals<R: Wait>(&self, rt: &R, other: &Self) -> Result<bool, AllocError> {
+    // No contract specifies when a set is unequal, since its length is one that other threads may change meanwhile.
+    pub fn equals<R: Wait>(&self, rt: &R, other: &Self) -> Result<bool, AllocError>
+        ensures { IfOk result (λ are_equal. are_equal ≡ true
+            → FoldsWalk T.cmp (LooksUpEqual T.cmp S.hash_of other.now (λ _ _. true) true) tt tt) }
+    {
         self.pin(rt).equals(&other.pin(rt))
     }
 
@@ -384,11 +388,13 @@ impl<T: Ord + Drop, S: KeyHasher<T>, A: Allocator + Copy> HashSet<T, S, A> {
     /// # Errors
     ///
     /// Returns [`AllocError`] if cloning an `Arc` fails. The elements that were already removed stay removed.
-    // No contract specifies what other threads leave in the set.
+    // No contract specifies which elements are present when they are removed, since other threads change them meanwhile.
     pub fn retain<F: FnMut(&T) -> bool, R: Wait>(&self, rt: &R, f: F) -> Result<(), AllocError>
     where
         F: Drop,
         requires { F.IsAlwaysCallable f }
+        ensures { OnOk result ((last : F)
+            × FoldsWalk T.cmp (KeepsOrRemovesElement F.step (RemovesSeen T.cmp S.hash_of self.now)) f last) }
     {
         self.pin(rt).retain(f)
     }

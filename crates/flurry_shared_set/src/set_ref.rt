@@ -1,9 +1,10 @@
 //! The view of a shared set.
 ghost use Rattle.std.specs.Prelude.{◌≡◌, IfOk, OnOk, true};
 ghost use Rattle.flurry_shared_view.specs.SharedAnswers.{IsAnswerOf, contains_answer, ended_answer, or_refused};
+ghost use Rattle.flurry_shared_view.specs.Visits.{FoldsWalk, LooksUpEqual, RemovesSeen};
 ghost use Rattle.flurry_shared_view.specs.Walks.{Begins, HasEnded};
 ghost use Rattle.flurry_base.specs.declared.call.Call.TheVariants.{GetKeyValue, ContainsKey, TryInsert, Remove, RemoveEntry, Reserve, Clear};
-ghost use Rattle.flurry_shared_set.specs.ElementAnswers.{element_answer, inserted_answer, removed_answer};
+ghost use Rattle.flurry_shared_set.specs.ElementAnswers.{KeepsOrRemovesElement, element_answer, inserted_answer, removed_answer};
 
 use flurry_base::hash::{DefaultHashBuilder, KeyHasher};
 use flurry_base::query::HashedQuery;
@@ -212,8 +213,11 @@ impl<'m, R: Wait, T: Ord + Drop, S: KeyHasher<T>, A: Allocator + Copy> HashSetRe
     /// # Errors
     ///
     /// Returns [`AllocError`] if cloning an `Arc` fails.
-    // While other threads write, the result does not describe any one moment.
-    pub fn equals(&self, other: &Self) -> Result<bool, AllocError> {
+    // No contract specifies when a set is unequal, since its length is one that other threads may change meanwhile.
+    pub fn equals(&self, other: &Self) -> Result<bool, AllocError>
+        ensures { IfOk result (λ are_equal. are_equal ≡ true
+            → FoldsWalk T.cmp (LooksUpEqual T.cmp S.hash_of other.now (λ _ _. true) true) tt tt) }
+    {
         self.map.equals(&other.map)
     }
 
@@ -266,11 +270,13 @@ impl<'m, R: Wait, T: Ord + Drop, S: KeyHasher<T>, A: Allocator + Copy> HashSetRe
     /// # Errors
     ///
     /// Returns [`AllocError`] if cloning an `Arc` fails. The elements that were already removed stay removed.
-    // While other threads write, what it finds does not describe any one moment.
+    // No contract specifies which elements are present when they are removed, since other threads change them meanwhile.
     pub fn retain<F: FnMut(&T) -> bool>(&self, f: F) -> Result<(), AllocError>
     where
         F: Drop,
         requires { F.IsAlwaysCallable f }
+        ensures { OnOk result ((last : F)
+            × FoldsWalk T.cmp (KeepsOrRemovesElement F.step (RemovesSeen T.cmp S.hash_of self.now)) f last) }
     {
         let mut keep = f;
         let mut pairs = self.map.iter();
@@ -288,7 +294,8 @@ impl<'m, R: Wait, T: Ord + Drop, S: KeyHasher<T>, A: Allocator + Copy> HashSetRe
     where
         requires callable { F.IsAlwaysCallable keep.old }
         requires begun { Begins T.cmp pairs.old }
-        ensures { OnOk result (HasEnded T.cmp pairs.new) }
+        ensures { OnOk result
+            (FoldsWalk T.cmp (KeepsOrRemovesElement F.step (RemovesSeen T.cmp S.hash_of self.now)) keep.old keep.new) }
     {
         for _ in self.map.runtime().forever() {
             let Some(seen) = pairs.next_seen()? else {

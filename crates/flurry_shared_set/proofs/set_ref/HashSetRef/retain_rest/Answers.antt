@@ -1,19 +1,39 @@
 use denote.Param.Always.{mut_next}
-use Rattle.std.proofs.Common.{rules, Ok, ◌∙◌, ap}
-use Rattle.flurry_shared_view.proofs.WalkLaws.{opens, stays_open, comes_to_end}
+use Rattle.std.proofs.Common.{rules, Ok, ◌∙◌, ap, inl, inr, subst, sym}
+use Rattle.flurry_shared_view.specs.Visits.{RemovesSeen}
+use Rattle.flurry_shared_view.proofs.VisitLaws.{has_visited_none, has_visited_more, has_visited_all}
+use Rattle.flurry_shared_set.proofs.ElementLaws.{says_of_element}
 use Rattle.flurry_shared_set.proofs.set_ref.HashSetRef.retain_rest.Goals as goal
 
 pub loop-init : goal.loop-init
-loop-init g c = (search rules, opens g.T.Ord.cmp _ c.requires.begun)
+loop-init g c = (search rules, has_visited_none g.T.Ord.cmp _ _ _ c.requires.begun)
 
 pub returns-in_default : goal.returns-in_default
-returns-in_default g c = comes_to_end g.T.Ord.cmp (λ s. s) (λ s. s) _ _ c.next_seen.result (c.in_ok-seen.was ∙ ap Ok c.in_default.is) c.loop.invariant.1 c.next_seen.ensures
+returns-in_default g c = has_visited_all g.T.Ord.cmp _ (λ s. s) (λ s. s) _ _ c.next_seen.result c.next_seen.ensures (c.in_ok-seen.was ∙ ap Ok c.in_default.is) _ _ c.loop.invariant.1
 
 pub loop-preserved-then-not-keep : goal.loop-preserved-then-not-keep
-loop-preserved-then-not-keep g c = (search (mut_next, c.loop.invariant.0, rules), stays_open g.T.Ord.cmp (λ s. s) (λ s. s) _ _ c.next_seen.result _ (c.in_ok-seen.was ∙ ap Ok c.in-Some-2.is) c.loop.invariant.1 c.next_seen.ensures)
+loop-preserved-then-not-keep g c = (
+  search (mut_next, c.loop.invariant.0, rules),
+  has_visited_more g.T.Ord.cmp _ (λ s. s) (λ s. s) _ _ c.next_seen.result c.next_seen.ensures _ (c.in_ok-seen.was ∙ ap Ok c.in-Some-2.is) _ _ _ c.loop.invariant.1
+      (λ y same. inr (
+        says_of_element c.key.ensures y (ap (λ s. s.key) same) (goal.F-step g) _ _ _ _ c.if-not-keep.true c.keep.ensures,
+        subst (RemovesSeen g.T.Ord.cmp g.S.KeyHasher.hash_of c.args.self.now) (sym same) (_, c.remove_seen.ensures),
+      )),
+)
 
 pub loop-preserved-then-not-keep-2 : goal.loop-preserved-then-not-keep-2
-loop-preserved-then-not-keep-2 g c = (search (mut_next, c.loop.invariant.0, rules), stays_open g.T.Ord.cmp (λ s. s) (λ s. s) _ _ c.next_seen.result _ (c.in_ok-seen.was ∙ ap Ok c.in-Some-2.is) c.loop.invariant.1 c.next_seen.ensures)
+loop-preserved-then-not-keep-2 g c = (
+  search (mut_next, c.loop.invariant.0, rules),
+  has_visited_more g.T.Ord.cmp _ (λ s. s) (λ s. s) _ _ c.next_seen.result c.next_seen.ensures _ (c.in_ok-seen.was ∙ ap Ok c.in-Some-2.is) _ _ _ c.loop.invariant.1
+      (λ y same. inr (
+        says_of_element c.key.ensures y (ap (λ s. s.key) same) (goal.F-step g) _ _ _ _ c.if-not-keep.true c.keep.ensures,
+        subst (RemovesSeen g.T.Ord.cmp g.S.KeyHasher.hash_of c.args.self.now) (sym same) (_, c.remove_seen.ensures),
+      )),
+)
 
 pub loop-preserved : goal.loop-preserved
-loop-preserved g c = (search (mut_next, c.loop.invariant.0, rules), stays_open g.T.Ord.cmp (λ s. s) (λ s. s) _ _ c.next_seen.result _ (c.in_ok-seen.was ∙ ap Ok c.in-Some-2.is) c.loop.invariant.1 c.next_seen.ensures)
+loop-preserved g c = (
+  search (mut_next, c.loop.invariant.0, rules),
+  has_visited_more g.T.Ord.cmp _ (λ s. s) (λ s. s) _ _ c.next_seen.result c.next_seen.ensures _ (c.in_ok-seen.was ∙ ap Ok c.in-Some-2.is) _ _ _ c.loop.invariant.1
+      (λ y same. inl (says_of_element c.key.ensures y (ap (λ s. s.key) same) (goal.F-step g) _ _ _ _ c.if-not-keep.false c.keep.ensures)),
+)
