@@ -23,7 +23,7 @@ use std::alloc::Global;
 /// unchanged then.
 #[unsafe(no_mangle)]
 pub extern "C" fn flurry_byte_set_insert(alloc: Global, set: &mut HeldByteSet, element: &[u8]) -> u8
-    ensures { ((result ≡ NO_MEMORY) × (set.new.set ≡ set.old.set))
+    ensures reply { ((result ≡ NO_MEMORY) × (set.new.set ≡ set.old.set))
         ⊎ (Finds (found_in set.old element.now) result
         × AddsOrKeeps byte_order (elements_of set.old) element.now (elements_of set.new)) }
     ensures bins { result ≡ PRESENT → set.new.set.set.bins ≡ set.old.set.set.bins }

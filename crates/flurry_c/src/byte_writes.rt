@@ -26,7 +26,7 @@ pub extern "C" fn flurry_bytes_insert(
     key: &[u8],
     value: &[u8],
 ) -> u8
-    ensures { ((result ≡ NO_MEMORY) × (bytes.new.map ≡ bytes.old.map))
+    ensures reply { ((result ≡ NO_MEMORY) × (bytes.new.map ≡ bytes.old.map))
         ⊎ (Finds (value_of bytes.old key.now) result
         × (pairs_of bytes.new ≡ with_pair byte_order (pairs_of bytes.old) key.now value.now)) }
     ensures bins { result ≡ PRESENT → bytes.new.map.map.bins ≡ bytes.old.map.map.bins }
@@ -50,7 +50,7 @@ pub extern "C" fn flurry_bytes_try_insert(
     key: &[u8],
     value: &[u8],
 ) -> u8
-    ensures { ((result ≡ NO_MEMORY) × (bytes.new.map ≡ bytes.old.map))
+    ensures reply { ((result ≡ NO_MEMORY) × (bytes.new.map ≡ bytes.old.map))
         ⊎ (Finds (value_of bytes.old key.now) result
         × KeepsOrAdds (pairs_of bytes.old) key.now value.now (pairs_of bytes.new)) }
     ensures bins { result ≡ PRESENT → bytes.new.map.map.bins ≡ bytes.old.map.map.bins }

@@ -21,7 +21,7 @@ use flurry_c_base::held_word_set::HeldWordSet;
 /// unchanged then.
 #[unsafe(no_mangle)]
 pub extern "C" fn flurry_word_set_insert(set: &mut HeldWordSet, element: u64) -> u8
-    ensures { ((result ≡ NO_MEMORY) × (set.new.set ≡ set.old.set))
+    ensures reply { ((result ≡ NO_MEMORY) × (set.new.set ≡ set.old.set))
         ⊎ (Finds (found_in set.old element) result
         × AddsOrKeeps nat_cmp (elements_of set.old) element (elements_of set.new)) }
     ensures bins { result ≡ PRESENT → set.new.set.set.bins ≡ set.old.set.set.bins }

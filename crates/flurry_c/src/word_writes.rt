@@ -18,7 +18,7 @@ use flurry_c_base::words::Words;
 /// then, and nothing is written.
 #[unsafe(no_mangle)]
 pub extern "C" fn flurry_words_insert(words: &mut Words, key: u64, value: u64, old: &mut u64) -> u8
-    ensures { ((result ≡ NO_MEMORY) × (words.new.map ≡ words.old.map) × (old.new ≡ old.old))
+    ensures reply { ((result ≡ NO_MEMORY) × (words.new.map ≡ words.old.map) × (old.new ≡ old.old))
         ⊎ (Tells (value_of words.old key) result old.old old.new
         × (pairs_of words.new ≡ with_pair nat_cmp (pairs_of words.old) key value)) }
     ensures bins { result ≡ PRESENT → words.new.map.map.bins ≡ words.old.map.map.bins }
@@ -46,7 +46,7 @@ pub extern "C" fn flurry_words_try_insert(
     value: u64,
     current: &mut u64,
 ) -> u8
-    ensures { ((result ≡ NO_MEMORY) × (words.new.map ≡ words.old.map) × (current.new ≡ current.old))
+    ensures reply { ((result ≡ NO_MEMORY) × (words.new.map ≡ words.old.map) × (current.new ≡ current.old))
         ⊎ (Tells (value_of words.old key) result current.old current.new
         × KeepsOrAdds (pairs_of words.old) key value (pairs_of words.new)) }
     ensures bins { result ≡ PRESENT → words.new.map.map.bins ≡ words.old.map.map.bins }

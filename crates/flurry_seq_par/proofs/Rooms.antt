@@ -26,7 +26,7 @@ module _ {K V : Type 0} {cmp : K → K → Ordering} (o : IsTotalOrder cmp) wher
 module _ {M X : Type 0} (f : M → List X) where
   -- the parts before one, it, and the parts after it
   pub length-around : (xs : List M) (x : M) (ys : List M) → length (flat_map f (xs ++ x ∷ ys)) ≡ length (flat_map f xs) + (length (f x) + length (flat_map f ys))
-  length-around [] x ys = length-append (f x) (flat_map f ys)
+  length-around [] x ys = let all = length-append (f x) (flat_map f ys) in omega (arith, all)
   length-around (z ∷ xs) x ys =
       let rest = length-around xs x ys in
       let all = length-append (f z) (flat_map f (xs ++ x ∷ ys)) in
@@ -42,7 +42,7 @@ module _ {K V P M E : Type 0} {cmp : K → K → Ordering} (o : IsTotalOrder cmp
   few_each [] (m ∷ ms) zip = absurd zip
   few_each (p ∷ ps) [] zip = absurd zip
   few_each (p ∷ ps) (m ∷ ms) zip =
-      let here : length (pairs m) ≤ length (items p) = rw (made p m zip.0) (few-with_all o [] (items p) (IsFiniteMap-nil V cmp)) in
+      let here : length (pairs m) ≤ length (items p) = rw (made p m zip.0) (let few = few-with_all o [] (items p) (IsFiniteMap-nil V cmp) in omega (arith, few)) in
       let rest = few_each ps ms zip.1 in
       let left = length-append (pairs m) (flat_map pairs ms) in
       let right = length-append (items p) (flat_map items ps) in

@@ -1,4 +1,4 @@
-use Rattle.std.proofs.Common.{◌≡◌, ◌+◌, [], ◌∷◌, ◌++◌, length, flat_map, inl, ap, refl, sym, ◌∙◌, append_assoc, subst, arith}
+use Rattle.std.proofs.Common.{rules, ◌≡◌, ◌+◌, [], ◌∷◌, ◌++◌, length, flat_map, inl, ap, refl, sym, ◌∙◌, append_assoc, subst, arith}
 use Rattle.std.specs.Vec.Iter.{into_iter_items}
 use Rattle.std.proofs.lemmas.List.Sorted.{length_permutation}
 use Rattle.flurry_base.specs.FiniteMap.{IsFiniteMap, with_all}
@@ -21,7 +21,7 @@ loop-map-init g c =
       few = omega (arith, none);
       room = λ le. inl (ap (λ m. m.bins) made);
       hasher = ap (λ m. m.hasher) made;
-      split = refl;
+      split = search rules;
     }
 
 pub loop-map-preserved : goal.loop-map-preserved

@@ -1,5 +1,5 @@
-use Rattle.std.proofs.Common.{◌≡◌, ◌+◌, [], ◌∷◌, ◌++◌, length, sym, ap, ◌∙◌, append_assoc, arith}
-use Rattle.std.proofs.lemmas.List.{length-append}
+use Rattle.std.proofs.Common.{◌≡◌, ◌+◌, ◌≤◌, [], ◌∷◌, ◌++◌, length, sym, ap, ◌∙◌, append_assoc, subst, arith}
+use Rattle.std.proofs.lemmas.List.{append-nil, length-append, nil_from_length}
 use Rattle.std.specs.Vec.Iter.{into_iter_items}
 use Rattle.flurry_bins.specs.Bin.{entries_of_bin}
 use Rattle.flurry_base.specs.FiniteMap.{with_all}
@@ -41,6 +41,13 @@ loop-bin-preserved g c =
       hasher = c.in_ok-join_list.ensures.hasher ∙ c.loop-bin.invariant.hasher;
       split = split;
     }
+
+pub returns-clause-few : goal.returns-clause-few
+returns-clause-few g c =
+    let before = c.loop-bin.yielded in
+    let none : into_iter_items c.loop-bin.bin-iterator ≡ [] = nil_from_length (into_iter_items c.loop-bin.bin-iterator) (omega (arith, c.in-None.ensures.steps.0, c.loop-bin.bin-iterator.rest.ok.0)) in
+    let whole = sym (append-nil before) ∙ ap (λ l. before ++ l) (sym none) ∙ c.loop-bin.invariant.split in
+    subst (λ l. length c.loop-bin.left.pairs ≤ length c.args.left.now.pairs + length (pairs_of_bins l)) whole c.loop-bin.invariant.few
 
 pub returns-in_err-join_list-clause-err : goal.returns-in_err-join_list-clause-err
 returns-in_err-join_list-clause-err g c =

@@ -20,7 +20,7 @@ loop-node-preserved-in_ok-insert_node g c =
     let rest = c.pop_front.new.self in
     let start = length c.args.left.now.pairs in
     let old = c.loop-node.left in
-    let next = c.insert_node.new.left in
+    let next = c.insert_node.new.self in
     let split = append_assoc before.0 (p ∷ []) (pairs_in (entries_of_list rest)) ∙ ap (λ l. before.0 ++ pairs_in l) (sym c.in-Some.ensures) ∙ before.1 in
     let one =
     one_more (is_some (pair_at g.K.Ord.cmp old.pairs p.0)) (length old.pairs) (length next.pairs)
@@ -47,7 +47,7 @@ loop-node-preserved g c =
     let rest = c.pop_front.new.self in
     let start = length c.args.left.now.pairs in
     let old = c.loop-node.left in
-    let next = c.insert_node.new.left in
+    let next = c.insert_node.new.self in
     let split = append_assoc before.0 (p ∷ []) (pairs_in (entries_of_list rest)) ∙ ap (λ l. before.0 ++ pairs_in l) (sym c.in-Some.ensures) ∙ before.1 in
     let one =
     one_more (is_some (pair_at g.K.Ord.cmp old.pairs p.0)) (length old.pairs) (length next.pairs)
