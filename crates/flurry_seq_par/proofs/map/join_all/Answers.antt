@@ -1,4 +1,4 @@
-use Rattle.std.proofs.Common.{rules, ◌≡◌, ◌+◌, [], ◌∷◌, ◌++◌, length, flat_map, inl, ap, refl, sym, ◌∙◌, append_assoc, subst, arith}
+use Rattle.std.proofs.Common.{rules, ◌≡◌, ◌+◌, [], ◌∷◌, ◌++◌, length, flat_map, inl, ap, sym, ◌∙◌, append_assoc, subst, arith}
 use Rattle.std.specs.Vec.Iter.{into_iter_items}
 use Rattle.std.proofs.lemmas.List.Sorted.{length_permutation}
 use Rattle.flurry_base.specs.FiniteMap.{IsFiniteMap, with_all}
