@@ -1,5 +1,7 @@
 use denote.Param.Always.{mut_next}
 use Rattle.std.proofs.Common.{rules, Ok, ◌∙◌, ap, inl, inr, subst, sym}
+use Rattle.std.specs.Option.{option_map}
+use Rattle.std.specs.Arc.{arc_value}
 use Rattle.flurry_shared_view.specs.Visits.{RemovesSeen}
 use Rattle.flurry_shared_view.proofs.VisitLaws.{has_visited_none, has_visited_more, has_visited_all}
 use Rattle.flurry_shared_set.proofs.ElementLaws.{says_of_element}
@@ -17,7 +19,8 @@ loop-preserved-then-not-keep g c = (
   has_visited_more g.T.Ord.cmp _ (λ s. s) (λ s. s) _ _ c.next_seen.result c.next_seen.ensures _ (c.in_ok-seen.was ∙ ap Ok c.in-Some-2.is) _ _ _ c.loop.invariant.1
       (λ y same. inr (
         says_of_element c.key.ensures y (ap (λ s. s.key) same) (goal.F-step g) _ _ _ _ c.if-not-keep.true c.keep.ensures,
-        subst (RemovesSeen g.T.Ord.cmp g.S.KeyHasher.hash_of c.args.self.now) (sym same) (_, c.remove_seen.ensures),
+        subst (λ m. RemovesSeen g.T.Ord.cmp g.S.KeyHasher.hash_of m y) c.self.view_is
+            (subst (RemovesSeen g.T.Ord.cmp g.S.KeyHasher.hash_of c.self.inside.map) (sym same) (option_map arc_value c.remove_seen.result, c.remove_seen.ensures)),
       )),
 )
 
@@ -27,7 +30,8 @@ loop-preserved-then-not-keep-2 g c = (
   has_visited_more g.T.Ord.cmp _ (λ s. s) (λ s. s) _ _ c.next_seen.result c.next_seen.ensures _ (c.in_ok-seen.was ∙ ap Ok c.in-Some-2.is) _ _ _ c.loop.invariant.1
       (λ y same. inr (
         says_of_element c.key.ensures y (ap (λ s. s.key) same) (goal.F-step g) _ _ _ _ c.if-not-keep.true c.keep.ensures,
-        subst (RemovesSeen g.T.Ord.cmp g.S.KeyHasher.hash_of c.args.self.now) (sym same) (_, c.remove_seen.ensures),
+        subst (λ m. RemovesSeen g.T.Ord.cmp g.S.KeyHasher.hash_of m y) c.self.view_is
+            (subst (RemovesSeen g.T.Ord.cmp g.S.KeyHasher.hash_of c.self.inside.map) (sym same) (option_map arc_value c.remove_seen.result, c.remove_seen.ensures)),
       )),
 )
 
