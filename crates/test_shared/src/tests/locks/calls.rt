@@ -62,6 +62,19 @@ pub(crate) fn stop<K: Ord + Drop, V: Drop, A: Allocator + Copy, R: Wait>(
     call: OwnedCall<K, V, NoFn>,
     steps: u64,
 ) -> Option<Event> {
+    do_steps(rt, locks, hash, call, steps)
+}
+
+// Does the first steps of a call, `steps` of them, and then drops it. Returns what the last of them was.
+fn do_steps<K: Ord + Drop, V: Drop, A: Allocator + Copy, F: ComputeFn<K, V>, R: Wait>(
+    rt: &R,
+    locks: &Locks<K, V, A>,
+    hash: u64,
+    call: OwnedCall<K, V, F>,
+    steps: u64,
+) -> Option<Event>
+    requires { (f : F) → F.can_change f × F.never_keeps f }
+{
     let mut party = Party::from_owned(call, hash, 4);
     let mut lock_field = CallField::new(&LockField::new(rt, locks));
     let last = act_often(&mut party, &mut lock_field, steps);
@@ -71,8 +84,8 @@ pub(crate) fn stop<K: Ord + Drop, V: Drop, A: Allocator + Copy, R: Wait>(
 }
 
 // Does the next steps of a call, which is lent, since a proof goes through all that a loop owns. Returns what the last of them was.
-pub(super) fn act_often<K: Ord + Drop, V: Drop, A: Allocator + Copy, R: Wait>(
-    party: &mut Party<&K, K, V, NoFn, A>,
+pub(super) fn act_often<K: Ord + Drop, V: Drop, A: Allocator + Copy, F: ComputeFn<K, V>, R: Wait>(
+    party: &mut Party<&K, K, V, F, A>,
     lock_field: &mut CallField<'_, R, K, V, A>,
     steps: u64,
 ) -> Option<Event> {

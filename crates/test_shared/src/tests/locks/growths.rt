@@ -2,7 +2,7 @@
 
 use super::calls::{act_often, count_found, put_all, stop};
 use super::{assert_same, newest_of};
-use flurry_bins_slots::NoFn;
+use flurry_bins_slots::{ComputeFn, NoFn};
 use flurry_shared_locks::{CallField, LockField, Locks};
 use flurry_steps::Party;
 use flurry_steps::party::{Event, OwnedCall};
@@ -60,7 +60,19 @@ fn do_call<A: Allocator + Copy, R: Wait>(
     call: OwnedCall<u64, u64, NoFn>,
     work: &Work,
 ) {
-    let mut party: Party<&u64, u64, u64, NoFn, A> = Party::from_owned(call, hash, 4);
+    do_all_steps(rt, locks, hash, call, work);
+}
+
+fn do_all_steps<A: Allocator + Copy, F: ComputeFn<u64, u64>, R: Wait>(
+    rt: &R,
+    locks: &Locks<u64, u64, A>,
+    hash: u64,
+    call: OwnedCall<u64, u64, F>,
+    work: &Work,
+)
+    requires { (f : F) → F.can_change f × F.never_keeps f }
+{
+    let mut party = Party::from_owned(call, hash, 4);
     let mut lock_field = CallField::new(&LockField::new(rt, locks));
     act_to_the_end(&mut party, &mut lock_field, work);
     drop(lock_field);
@@ -68,8 +80,8 @@ fn do_call<A: Allocator + Copy, R: Wait>(
 }
 
 // Does the steps that are left of a call, which is lent, since a proof goes through all that a loop owns.
-fn act_to_the_end<A: Allocator + Copy, R: Wait>(
-    party: &mut Party<&u64, u64, u64, NoFn, A>,
+fn act_to_the_end<A: Allocator + Copy, F: ComputeFn<u64, u64>, R: Wait>(
+    party: &mut Party<&u64, u64, u64, F, A>,
     lock_field: &mut CallField<'_, R, u64, u64, A>,
     work: &Work,
 ) {
@@ -261,9 +273,20 @@ fn is_due_until_nothing_is_left<A: Allocator + Copy, R: Abort + Wait>(
     assert_same(rt, newest_of(rt, locks), Some(10));
 }
 
-// Does the first steps of a call up to the one that takes a seat, which never comes back.
+// Does the first steps of an insertion up to the one that takes a seat, which never comes back.
 fn keep_a_seat<R: Abort + Wait>(rt: &R, alloc: Global, locks: &Locks<u64, u64>, key: u64) {
     let call: OwnedCall<u64, u64, NoFn> = OwnedCall::Insert(key, 0);
+    keep_the_seat_of(rt, alloc, locks, call);
+}
+
+fn keep_the_seat_of<F: ComputeFn<u64, u64>, R: Abort + Wait>(
+    rt: &R,
+    alloc: Global,
+    locks: &Locks<u64, u64>,
+    call: OwnedCall<u64, u64, F>,
+)
+    requires { (f : F) → F.can_change f × F.never_keeps f }
+{
     let mut party = Party::from_owned(call, 1023, 4);
     let lock_field = CallField::new(&LockField::new(rt, locks));
     let lock_field = Box::leak(Box::new(alloc, lock_field).expect(rt, "memory"));
