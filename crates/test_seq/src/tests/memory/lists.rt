@@ -78,7 +78,7 @@ fn extend(rt: HostRuntime) {
     refuse_each(&rt, rt.alloc(), &Extends);
 }
 
-// The extension of a new map by the list of three pairs. Room for them starts at 8 bins, which are doubled once.
+// The extension of a new map by the list of three pairs. Room for them is a table of 16 bins, which is requested at once.
 struct ExtendsNew;
 
 impl Refused for ExtendsNew {
@@ -91,11 +91,7 @@ impl Refused for ExtendsNew {
     ) -> bool {
         let mut map = map_of(rt, memory, 0);
         let refused = extended(rt, metered, &mut map, k, 0);
-        let bins = match k {
-            0 => 0,
-            1 => 8,
-            _ => 16,
-        };
+        let bins = if k == 0 { 0 } else { 16 };
         assert_same_at(rt, k, map.capacity(), bins);
         refused
     }
