@@ -11,8 +11,9 @@ mod refused;
 use super::assert_same;
 use deeds::{Deed, does};
 use flurry_base::hash::ZeroHashBuilder;
-use flurry_shared::{HashMap, HashMapRef};
+use flurry_shared_locks::Locks;
 use flurry_shared_set::HashSet;
+use flurry_shared_view::HashMapRef;
 use std::alloc::{Allocator, Global};
 use std::cmp::Ordering;
 use std::process::Abort;
@@ -136,9 +137,7 @@ impl PartialOrd for Guest {
     }
 }
 
-// A map that has one bin, and a view of one.
-type Guests<A> = HashMap<Guest, Guest, ZeroHashBuilder, A>;
-
+// A view of a map in which all keys have one hash.
 type GuestsRef<'m, R, A> = HashMapRef<'m, R, Guest, Guest, ZeroHashBuilder, A>;
 
 // Who has the meeting.
@@ -171,18 +170,20 @@ fn answers<A: Allocator + Copy, R: Wait>(view: &GuestsRef<'_, R, A>, meeting: &M
 
 // Does the deed beside the calls of another thread.
 fn in_two_threads<A: Allocator + Copy + Send + Sync, R: Threads + Wait + Sync>(
-    view: &GuestsRef<'_, R, A>,
+    rt: &R,
+    locks: &Locks<Guest, Guest, A>,
     deed: Deed,
     who: Who,
     meeting: &'static Meeting,
 ) {
     thread::join(
-        view.runtime(),
+        rt,
         move || {
+            let view = &HashMapRef::new(rt, locks, &ZeroHashBuilder, 1);
             does(view, deed, guest_of(1, who == Who::PassedIn, meeting));
             set_flag(&meeting.is_over);
         },
-        move || answers(view, meeting),
+        move || answers(&HashMapRef::new(rt, locks, &ZeroHashBuilder, 1), meeting),
     );
 }
 
@@ -206,12 +207,15 @@ fn meets<R: Abort + Threads + Wait + Sync>(
     is_new: bool,
 ) -> bool {
     let meeting = Meeting::leak(rt, alloc);
-    let map: &Guests<Global> = &HashMap::with_hasher(alloc, ZeroHashBuilder);
-    let view = &map.pin(rt);
+    let locks: &Locks<Guest, Guest, Global> = &Locks::new(alloc);
     if !is_new {
-        fill(view, who, meeting);
+        fill(
+            &HashMapRef::new(rt, locks, &ZeroHashBuilder, 1),
+            who,
+            meeting,
+        );
     }
-    in_two_threads(view, deed, who, meeting);
+    in_two_threads(rt, locks, deed, who, meeting);
     meeting.has_met()
 }
 

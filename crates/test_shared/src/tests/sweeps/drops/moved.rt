@@ -28,7 +28,7 @@ fn meets<R: Abort + Threads + Wait + Sync>(rt: &R, alloc: Global, deed: Deed, wh
     let view: &GuestsRef<'_, R, Global> = &HashMapRef::new(rt, locks, &ZeroHashBuilder, 1);
     fill(view, who, meeting);
     move_bins(rt, locks);
-    in_two_threads(view, deed, who, meeting);
+    in_two_threads(rt, locks, deed, who, meeting);
     meeting.has_met()
 }
 

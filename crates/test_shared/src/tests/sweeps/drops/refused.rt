@@ -3,9 +3,10 @@
 use super::super::super::{Memory, metered};
 use super::super::assert_same;
 use super::deeds::Deed;
-use super::{Guests, GuestsRef, Meeting, Who, fill, in_two_threads};
+use super::{Guest, Meeting, Who, fill, in_two_threads};
 use flurry_base::hash::ZeroHashBuilder;
-use flurry_shared::HashMap;
+use flurry_shared_locks::Locks;
+use flurry_shared_view::HashMapRef;
 use metered_alloc::MeteredAlloc;
 use std::alloc::{Allocator, Global};
 use std::process::Abort;
@@ -15,14 +16,15 @@ use std::thread::Threads;
 // Does the deed while all requests but the first `granted` ones are refused. Returns whether one was, and the drop met the calls of the
 // other thread.
 fn meets_in<A: Allocator + Copy + Send + Sync, R: Threads + Wait + Sync>(
+    rt: &R,
     metered: &MeteredAlloc<Global>,
-    view: &GuestsRef<'_, R, A>,
+    locks: &Locks<Guest, Guest, A>,
     deed: Deed,
     granted: u64,
     meeting: &'static Meeting,
 ) -> bool {
     metered.refuse_from(granted);
-    in_two_threads(view, deed, Who::PassedIn, meeting);
+    in_two_threads(rt, locks, deed, Who::PassedIn, meeting);
     let was_refused = metered.was_refused();
     metered.refuse_nothing();
     was_refused && meeting.has_met()
@@ -37,12 +39,15 @@ fn meets<R: Abort + Threads + Wait + Sync>(
 ) -> bool {
     let memory = metered(rt, alloc);
     let meeting = Meeting::leak(rt, alloc);
-    let map: &Guests<Memory> = &HashMap::with_hasher(memory, ZeroHashBuilder);
-    let view = &map.pin(rt);
+    let locks: &Locks<Guest, Guest, Memory> = &Locks::new(memory);
     if !is_new {
-        fill(view, Who::PassedIn, meeting);
+        fill(
+            &HashMapRef::new(rt, locks, &ZeroHashBuilder, 1),
+            Who::PassedIn,
+            meeting,
+        );
     }
-    meets_in(memory, view, deed, granted, meeting)
+    meets_in(rt, memory, locks, deed, granted, meeting)
 }
 
 // A row for each call that drops what it is given, since it has no memory to keep it. An insertion has its value's `Arc` made before it
