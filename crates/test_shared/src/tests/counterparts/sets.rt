@@ -7,6 +7,12 @@ use std::sync::Wait;
 use std::thread;
 use std::thread::Threads;
 
+// What the threads share.
+#[derive(Drop)]
+struct Shared {
+    set: HashSet<u64>,
+}
+
 // Inserts the numbers below 64. Returns how many were new.
 fn insert_all<R: Abort + Wait>(rt: &R, set: &HashSet<u64>) -> u64 {
     let mut new = 0u64;
@@ -48,24 +54,35 @@ fn count_found<R: Abort + Wait>(rt: &R, set: &HashSet<u64>) -> (u64, u64) {
 }
 
 // Returns how many elements were new in each of two threads.
-fn insert_in_threads<R: Abort + Threads + Wait + Sync>(rt: &R, set: &HashSet<u64>) -> (u64, u64) {
-    thread::join(rt, || insert_all(rt, set), || insert_all(rt, set))
+fn insert_in_threads<R: Abort + Threads + Wait + Sync>(rt: &R, shared: &Shared) -> (u64, u64) {
+    thread::join(
+        rt,
+        move || insert_all(rt, &shared.set),
+        move || insert_all(rt, &shared.set),
+    )
 }
 
 // Returns how many elements each of two threads removed.
-fn remove_in_threads<R: Threads + Wait + Sync>(rt: &R, set: &HashSet<u64>) -> (u64, u64) {
-    thread::join(rt, || remove_all(rt, set), || remove_all(rt, set))
+fn remove_in_threads<R: Threads + Wait + Sync>(rt: &R, shared: &Shared) -> (u64, u64) {
+    thread::join(
+        rt,
+        move || remove_all(rt, &shared.set),
+        move || remove_all(rt, &shared.set),
+    )
 }
 
 // Each element is new once, and is removed once.
 #[test]
 fn two_threads_insert_and_remove_the_same_elements(rt: HostRuntime) {
     let rt = &rt;
-    let set = &HashSet::new(rt.alloc());
-    let new = insert_in_threads(rt, set);
+    let shared = &Shared {
+        set: HashSet::new(rt.alloc()),
+    };
+    let set = &shared.set;
+    let new = insert_in_threads(rt, shared);
     assert_same(rt, (new.0.saturating_add(new.1), set.len(rt)), (64, 64));
     assert_same(rt, count_found(rt, set), (64, 64));
-    let removed = remove_in_threads(rt, set);
+    let removed = remove_in_threads(rt, shared);
     assert_same(
         rt,
         (removed.0.saturating_add(removed.1), set.len(rt)),

@@ -8,6 +8,12 @@ use std::sync::Wait;
 use std::thread;
 use std::thread::Threads;
 
+// What the threads share.
+#[derive(Drop)]
+struct Shared {
+    map: HashMap<String, u64>,
+}
+
 fn numeral(rt: &impl Abort, alloc: Global, number: u64) -> String {
     format!(in alloc; "{number}").expect(rt, "memory")
 }
@@ -21,15 +27,11 @@ fn insert_numerals<R: Abort + Wait>(rt: &R, alloc: Global, map: &HashMap<String,
 }
 
 // Inserts in two threads.
-fn insert_in_threads<R: Abort + Threads + Wait + Sync>(
-    rt: &R,
-    alloc: Global,
-    map: &HashMap<String, u64>,
-) {
+fn insert_in_threads<R: Abort + Threads + Wait + Sync>(rt: &R, alloc: Global, shared: &Shared) {
     thread::join(
         rt,
-        || insert_numerals(rt, alloc, map, 0),
-        || insert_numerals(rt, alloc, map, 1),
+        move || insert_numerals(rt, alloc, &shared.map, 0),
+        move || insert_numerals(rt, alloc, &shared.map, 1),
     );
 }
 
@@ -50,8 +52,11 @@ fn count_written<R: Abort + Wait>(rt: &R, alloc: Global, map: &HashMap<String, u
 #[test]
 fn two_threads_insert_the_same_texts(rt: HostRuntime) {
     let rt = &rt;
-    let map = &HashMap::new(rt.alloc());
-    insert_in_threads(rt, rt.alloc(), map);
+    let shared = &Shared {
+        map: HashMap::new(rt.alloc()),
+    };
+    let map = &shared.map;
+    insert_in_threads(rt, rt.alloc(), shared);
     assert_same(rt, count_written(rt, rt.alloc(), map), 64);
     assert_same(rt, map.len(rt), 64);
 }

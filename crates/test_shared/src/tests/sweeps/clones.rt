@@ -14,6 +14,13 @@ const STANDING: u64 = 1000;
 // The greatest number of clones.
 const CLONES: u32 = 10_000;
 
+// What the threads share.
+#[derive(Drop)]
+struct Shared {
+    map: Numbers,
+    is_over: AtomicBool,
+}
+
 // Clones the map, and returns how many of the earlier keys the clone lacks.
 fn lost_by_a_clone<R: Abort + Wait>(rt: &R, map: &Numbers) -> u64 {
     let clone = map.try_clone(rt).expect(rt, "memory");
@@ -40,12 +47,11 @@ fn insert_beside<R: Wait>(rt: &R, map: &Numbers, to: u64, is_over: &AtomicBool) 
 }
 
 // Does both in threads of their own.
-fn clone_and_insert<R: Abort + Threads + Wait + Sync>(rt: &R, map: &Numbers) -> (u64, u64) {
-    let is_over = &AtomicBool::new(false);
+fn clone_and_insert<R: Abort + Threads + Wait + Sync>(rt: &R, shared: &Shared) -> (u64, u64) {
     thread::join(
         rt,
-        || clone_often(rt, map, is_over),
-        || insert_beside(rt, map, 30_000, is_over),
+        move || clone_often(rt, &shared.map, &shared.is_over),
+        move || insert_beside(rt, &shared.map, 30_000, &shared.is_over),
     )
 }
 
@@ -53,6 +59,9 @@ fn clone_and_insert<R: Abort + Threads + Wait + Sync>(rt: &R, map: &Numbers) -> 
 #[test]
 fn clones_beside_insertions(rt: HostRuntime) {
     let rt = &rt;
-    let map = &numbers(rt, rt.alloc(), STANDING);
-    assert_same(rt, clone_and_insert(rt, map), (0, 0));
+    let shared = &Shared {
+        map: numbers(rt, rt.alloc(), STANDING),
+        is_over: AtomicBool::new(false),
+    };
+    assert_same(rt, clone_and_insert(rt, shared), (0, 0));
 }
